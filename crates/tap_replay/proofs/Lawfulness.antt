@@ -1,7 +1,7 @@
 -- The log of a run that has ended is lawful, and a scenario has one such run.
 -- Cited above: ended_log
 use Rattle.std.proofs.Common.{◌≡◌, ◌≢◌, inl, inr, true, false, List, [], ◌∷◌, ◌++◌, length, refl, ap, sym, ◌∙◌, append_assoc}
-use Rattle.tap_scenario.specs.Scenario.{EachStepIsPlayed, IsScript, ScenarioValue}
+use Rattle.tap_scenario.specs.Scenario.{CanBePlayed, IsScript, ScenarioValue}
 use Rattle.tap_log.specs.declared.record.Record.{Record}
 use Rattle.tap_log.specs.declared.record.Record.TheVariants.{Spent as SpentRecord}
 use Rattle.tap_engine.specs.Kinds.{is_finished}
@@ -24,7 +24,7 @@ ended_log s Done log ended = record { played = ended.0; is_played = ended.1; end
 ended_log s Spent log ended = record { played = ended.0; is_played = ended.1; ending = inr (inr ended.2) }
 ended_log s NoMemory log ended = record { played = log; is_played = ended; ending = inl refl }
 
-lawful_log : (s : ScenarioValue) (end : End) (log : List Record) → IsScript s → EachStepIsPlayed s → HasEnded s end log → IsLawful log
+lawful_log : (s : ScenarioValue) (end : End) (log : List Record) → IsScript s → CanBePlayed s → HasEnded s end log → IsLawful log
 lawful_log s end log valid plays ended = record { script = s; valid = valid; plays = plays; run = ended_log s end log ended }
 
 -- ---- how the log ends says how the run has ended

@@ -1,6 +1,6 @@
 -- The log of each run of a player has the headline, and is lawful.
 use Rattle.std.proofs.Common.{inl, refl, Option, None, Some}
-use Rattle.tap_scenario.specs.Scenario.{EachStepIsPlayed, IsScript, ScenarioValue}
+use Rattle.tap_scenario.specs.Scenario.{CanBePlayed, IsScript, ScenarioValue}
 use Rattle.tap_lawful.specs.Lawful.{IsLawful, IsLogOf}
 use Rattle.tap_headline.specs.Scripts.{RunHasHeadline}
 use Rattle.tap_headline.proofs.Scripts.{logs_have_headline}
@@ -18,6 +18,6 @@ pub run_has_headline : (s : ScenarioValue) (over : Option End) (run : Run) → I
     → RunHasHeadline s run.world.log
 run_has_headline s over run valid of = logs_have_headline s run.world.log valid (run_log s over run of)
 
-pub run_is_lawful : (s : ScenarioValue) (over : Option End) (run : Run) → IsScript s → EachStepIsPlayed s → GoesOnUnless over s run
+pub run_is_lawful : (s : ScenarioValue) (over : Option End) (run : Run) → IsScript s → CanBePlayed s → GoesOnUnless over s run
     → IsLawful run.world.log
 run_is_lawful s over run valid plays of = record { script = s; valid = valid; plays = plays; run = run_log s over run of }

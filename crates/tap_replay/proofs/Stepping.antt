@@ -2,7 +2,8 @@
 use Rattle.std.proofs.Common.{◌≡◌, ◌≢◌, ℕ, ◌<◌, ◌≤◌, Bool, true, false, List, [], ◌∷◌, ◌++◌, length, Option, None, Some, Result, Ok, Err, IsTrue, refl, ap, sym, subst, ◌∙◌, arith, append_assoc}
 use Rattle.std.specs.Prelude.{if◌then◌else◌}
 use Rattle.std.proofs.lemmas.Bool.{le-leb, lt-leb}
-use Rattle.tap_scenario.specs.Step.{is_played}
+use Rattle.tap_name.specs.Settings.{SettingsValue}
+use Rattle.tap_scenario.specs.Step.{IsStep, is_played}
 use Rattle.tap_scenario.specs.declared.step.Step.{Step}
 use Rattle.tap_scenario.specs.declared.step.Step.TheVariants.{Deliver, Settle, SettleNewest, SettleMixed, Tick, Lose, Repeat, RootSet}
 use Rattle.tap_log.specs.declared.record.Record.{Record}
@@ -189,18 +190,18 @@ module _ (w v : WorldValue) (index : ℕ) (step : Step) (refusal : Refusal) (run
 
 -- ---- a settle is never refused
 
-pub settle_goes : (log : List Record) (step : Step) → IsTrue (is_played step) → ((place : ℕ) → step ≢ Deliver place)
-    → is_choice step ≡ true → first_refusal log step ≡ None
+pub settle_goes : (p : SettingsValue) (log : List Record) (step : Step) → IsTrue (is_played step) → IsStep p false step
+    → ((place : ℕ) → step ≢ Deliver place) → is_choice step ≡ true → first_refusal log step ≡ None
 unfolding is_choice is_played
-settle_goes log (Deliver place) played other chosen = absurd (other place refl)
-settle_goes log Settle played other chosen = settle_accepted log
-settle_goes log SettleNewest played other chosen = newest_accepted log
-settle_goes log (SettleMixed seed) played other chosen = mixed_accepted log seed
-settle_goes log Tick played other chosen = absurd (cc)
-settle_goes log (Lose place) played other chosen = absurd (cc)
-settle_goes log (Repeat place) played other chosen = absurd (cc)
-settle_goes log (RootSet object asker) played other chosen = absurd (cc)
-settle_goes log step played other chosen = absurd (cc)
+settle_goes p log (Deliver place) played is other chosen = absurd (other place refl)
+settle_goes p log Settle played is other chosen = settle_accepted log
+settle_goes p log SettleNewest played is other chosen = newest_accepted log
+settle_goes p log (SettleMixed seed) played is other chosen = mixed_accepted log seed
+settle_goes p log Tick played is other chosen = absurd (cc)
+settle_goes p log (Lose place) played is other chosen = absurd (let carried : false ≡ true = is.0 in cc)
+settle_goes p log (Repeat place) played is other chosen = absurd (let carried : false ≡ true = is.0 in cc)
+settle_goes p log (RootSet object asker) played is other chosen = absurd (cc)
+settle_goes p log step played is other chosen = absurd (cc)
 
 -- ---- a delivery whose place is given
 

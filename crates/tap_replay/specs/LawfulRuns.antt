@@ -1,6 +1,6 @@
 -- The laws of replays: their logs are those of runs of the scenario, and a scenario has one replay.
 use Rattle.std.specs.Prelude.{◌≡◌, ◌≢◌, List}
-use Rattle.tap_scenario.specs.Scenario.{EachStepIsPlayed, IsScript, ScenarioValue}
+use Rattle.tap_scenario.specs.Scenario.{CanBePlayed, IsScript, ScenarioValue}
 use Rattle.tap_log.specs.declared.record.Record.{Record}
 use Rattle.tap_lawful.specs.Lawful.{IsLawful, IsLogOf, IsWholeLogOf}
 use Rattle.tap_replay.specs.Player.{HasEnded}
@@ -13,10 +13,10 @@ pub record AreOneRun (end other : End) (log more : List Record) : Type 0 where
   pub log_is : log ≡ more
 
 -- A run that has ended leaves the log of a run of the scenario, and a whole one unless memory was refused. It is lawful if the scenario is within
--- its limits and each of its steps is played. Two runs for which there was memory enough end alike, with one log.
+-- its limits and can be played. Two runs for which there was memory enough end alike, with one log.
 pub record RunsAreLawful : Type 0 where
   pub log : (s : ScenarioValue) (end : End) (log : List Record) → HasEnded s end log → IsLogOf s log
   pub whole : (s : ScenarioValue) (end : End) (log : List Record) → HasEnded s end log → end ≢ NoMemory → IsWholeLogOf s log
-  pub lawful : (s : ScenarioValue) (end : End) (log : List Record) → IsScript s → EachStepIsPlayed s → HasEnded s end log → IsLawful log
+  pub lawful : (s : ScenarioValue) (end : End) (log : List Record) → IsScript s → CanBePlayed s → HasEnded s end log → IsLawful log
   pub one : (s : ScenarioValue) (end other : End) (log more : List Record) → HasEnded s end log → HasEnded s other more
       → end ≢ NoMemory → other ≢ NoMemory → AreOneRun end other log more

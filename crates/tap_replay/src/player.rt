@@ -4,7 +4,7 @@ ghost use Rattle.tap_lawful.specs.Lawful.{IsLawful};
 ghost use Rattle.tap_lawful.specs.Next.{beginning_in};
 ghost use Rattle.tap_replay.specs.Player.{HasPlayed, MayTurn, TakesTurn, over_by};
 ghost use Rattle.tap_headline.specs.Scripts.{RunHasHeadline};
-ghost use Rattle.tap_scenario.specs.Scenario.{EachStepIsPlayed};
+ghost use Rattle.tap_scenario.specs.Scenario.{CanBePlayed};
 
 use crate::choice::Choice;
 use crate::end::{End, Turned};
@@ -44,7 +44,10 @@ impl Player {
     /// A player before its first turn: the members are core nodes at rest, and the log has the record `Begin` alone.
     ///
     /// Later turns take memory of `alloc`. `NoMemory` if memory was refused.
+    ///
+    /// Condition: the scenario isn't carried, and no step is a root set.
     pub fn new(alloc: Global, scenario: &Scenario) -> Result<Player, NoMemory>
+        requires { CanBePlayed scenario.now }
         ensures world { IfOk result (λ player. HasBegun (beginning_in scenario.now) player.world) }
         ensures over { IfOk result (λ player. player.over ≡ None) }
         ensures played { IfOk result (HasPlayed scenario.now) }
@@ -73,16 +76,17 @@ impl Player {
     /// if memory was refused. A turn after `Over` answers the same again, and adds nothing.
     ///
     /// Condition: the log begins as the scenario does, its steps are the scenario's first ones, and they are all of them if it has
-    /// `Finished`; so it is after each turn by the same scenario. No step is one of a carrier or a root set.
+    /// `Finished`; so it is after each turn by the same scenario. The scenario isn't carried, and no
+    /// step is a root set.
     pub fn turn(&mut self, scenario: &Scenario) -> Turned
         requires script { MayTurn scenario.now self.old.world.log }
-        requires plays { EachStepIsPlayed scenario.now }
+        requires plays { CanBePlayed scenario.now }
         ensures turns { TakesTurn scenario.now self.old result self.new }
         ensures over { self.new.over ≡ over_by result }
         ensures played { HasPlayed scenario.now self.new }
         ensures may { MayTurn scenario.now self.new.world.log }
 
-        // The log is that of a run of a scenario each step of which is played.
+        // The log is that of a run of a scenario which isn't carried, and of which each step is played.
         ensures lawful { IsLawful self.new.world.log }
 
         // At each moment of the log there is a core node, no table has a hole, each walk leads to the one root, and at rest each node that

@@ -5,7 +5,7 @@ ghost use Rattle.tap_lawful.specs.Next.{next_group};
 ghost use Rattle.tap_lawful.specs.PlayedLaws.{left_of};
 ghost use Rattle.tap_replay.specs.Player.{GoesOnUnless, IsLeft, TurnsAs, end_of, over_by};
 ghost use Rattle.tap_replay.specs.Run.{AddsNext, IsRunOf};
-ghost use Rattle.tap_scenario.specs.Scenario.{EachStepIsPlayed};
+ghost use Rattle.tap_scenario.specs.Scenario.{CanBePlayed};
 ghost use Rattle.tap_replay.specs.Turn.{turn_outcome};
 
 use crate::choice::Choice;
@@ -26,7 +26,7 @@ impl Run {
     // Adds the group that comes next, and if none comes after it, that all steps were run.
     pub(crate) fn turn(&mut self, scenario: &Scenario) -> Turned
         requires run { IsRunOf scenario.now self.old }
-        requires plays { EachStepIsPlayed scenario.now }
+        requires plays { CanBePlayed scenario.now }
         ensures turns { TurnsAs (turn_outcome scenario.now self.old.world.log) self.old.world.log result self.new.world.log }
         ensures run { GoesOnUnless (over_by result) scenario.now self.new }
         ensures less { result ≡ Turned.More → left_of scenario.now self.new.world.log < left_of scenario.now self.old.world.log }
@@ -45,7 +45,7 @@ impl Run {
     // Adds the group that comes next, if one does.
     fn add_next(&mut self, scenario: &Scenario) -> Result<(), Stop>
         requires run { IsRunOf scenario.now self.old }
-        requires plays { EachStepIsPlayed scenario.now }
+        requires plays { CanBePlayed scenario.now }
         ensures { AddsNext scenario.now self.old result self.new }
     {
         match self.choice.take(self.world.outstanding()) {
@@ -57,7 +57,7 @@ impl Run {
     // Adds the group of the next step, if one is left.
     fn add_step(&mut self, scenario: &Scenario) -> Result<(), Stop>
         requires run { IsRunOf scenario.now self.old }
-        requires plays { EachStepIsPlayed scenario.now }
+        requires plays { CanBePlayed scenario.now }
         requires none { number_due self.old.world.log ≡ None }
         ensures { AddsNext scenario.now self.old result self.new }
     {

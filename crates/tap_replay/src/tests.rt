@@ -4,7 +4,7 @@ ghost use Rattle.tap_name.specs.Name.{IsName};
 ghost use Rattle.tap_name.specs.Settings.{AreWithinLimits};
 ghost use Rattle.tap_scenario.specs.Step.{IsStep, is_played};
 ghost use Rattle.tap_replay.specs.Player.{MayTurn};
-ghost use Rattle.tap_scenario.specs.Scenario.{EachStepIsPlayed};
+ghost use Rattle.tap_scenario.specs.Scenario.{CanBePlayed};
 
 use crate::end::{End, Turned};
 use crate::player::Player;
@@ -63,19 +63,22 @@ fn scenario_of(
     requires to { frames ≤ 1000 }
     requires few { length steps.now ≤ 1000 }
     requires steps { All (IsStep settings.now false) steps.now }
-    ensures { IfOk result (λ s. s.steps ≡ steps.now) }
+    ensures steps { IfOk result (λ s. s.steps ≡ steps.now) }
+    ensures uncarried { IfOk result (λ s. s.carrier ≡ false) }
 {
     let member = name(settings, "00")?;
     let mut members = List::new(alloc);
     members.push(member)?;
-    Ok(Scenario::of(alloc, settings, frames, &members, steps)?)
+    Ok(Scenario::of(
+        alloc, settings, frames, false, &members, steps,
+    )?)
 }
 
 // The scenario of those steps.
 fn scenario(alloc: Global, frames: u32) -> Result<Scenario, Fail>
     requires from { 1 ≤ frames }
     requires to { frames ≤ 1000 }
-    ensures { IfOk result EachStepIsPlayed }
+    ensures { IfOk result CanBePlayed }
 {
     let settings = settings()?;
     let steps = steps(&settings)?;
@@ -85,7 +88,7 @@ fn scenario(alloc: Global, frames: u32) -> Result<Scenario, Fail>
 // Whether a further turn answers the same, and adds nothing.
 fn is_over(player: &mut Player, scenario: &Scenario, end: End) -> bool
     requires script { MayTurn scenario.now player.old.world.log }
-    requires plays { EachStepIsPlayed scenario.now }
+    requires plays { CanBePlayed scenario.now }
     ensures { MayTurn scenario.now player.new.world.log }
 {
     let count = player.log().len();
@@ -95,7 +98,7 @@ fn is_over(player: &mut Player, scenario: &Scenario, end: End) -> bool
 // The turns of a player until its run is over: how many they are, how it ends, and how long its log is then.
 fn turns_of(player: &mut Player, scenario: &Scenario) -> Result<(u32, End, usize), Fail>
     requires script { MayTurn scenario.now player.old.world.log }
-    requires plays { EachStepIsPlayed scenario.now }
+    requires plays { CanBePlayed scenario.now }
 {
     for turns in 1..100 {
         if let Turned::Over(end) = player.turn(scenario) {
@@ -110,7 +113,7 @@ fn turns_of(player: &mut Player, scenario: &Scenario) -> Result<(u32, End, usize
 
 // Those of a player of this scenario.
 fn play(alloc: Global, scenario: &Scenario) -> Result<(u32, End, usize), Fail>
-    requires { EachStepIsPlayed scenario.now }
+    requires { CanBePlayed scenario.now }
 {
     match Player::new(alloc, scenario) {
         Ok(mut player) => turns_of(&mut player, scenario),
@@ -120,7 +123,7 @@ fn play(alloc: Global, scenario: &Scenario) -> Result<(u32, End, usize), Fail>
 
 // The end of a replay, and how long its log is.
 fn replayed(alloc: Global, scenario: &Scenario) -> Result<(End, usize), Fail>
-    requires { EachStepIsPlayed scenario.now }
+    requires { CanBePlayed scenario.now }
 {
     let Played { world, end } = replay(alloc, scenario);
     match world {

@@ -2,7 +2,7 @@ ghost use Rattle.std.specs.Prelude.{◌≡◌, IfSome};
 ghost use Rattle.tap_engine.specs.World.{HasNodesOfLog};
 ghost use Rattle.tap_headline.specs.Scripts.{RunHasHeadline};
 ghost use Rattle.tap_lawful.specs.Lawful.{IsLawful};
-ghost use Rattle.tap_scenario.specs.Scenario.{EachStepIsPlayed};
+ghost use Rattle.tap_scenario.specs.Scenario.{CanBePlayed};
 ghost use Rattle.tap_replay.specs.Whole.{IsReplay};
 
 use crate::end::{End, Turned};
@@ -30,11 +30,11 @@ pub struct Played {
 /// After `Done` the nodes of the world are those of the system that its log has come to; after `Spent` and `NoMemory` it was stopped.
 /// However the run has ended, its log is lawful and has the headline.
 ///
-/// Condition: no step is one of a carrier or a root set.
+/// Condition: the scenario isn't carried, and no step is a root set.
 ///
 /// Rule: docs/FORMATS.md, "What comes next".
 pub fn replay(alloc: Global, scenario: &Scenario) -> Played
-    requires { EachStepIsPlayed scenario.now }
+    requires { CanBePlayed scenario.now }
     ensures left { IsReplay scenario.now result }
     ensures nodes { result.end ≡ End.Done → IfSome result.world HasNodesOfLog }
     ensures lawful { IfSome result.world (λ world. IsLawful world.log) }

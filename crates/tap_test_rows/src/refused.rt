@@ -31,8 +31,8 @@ const REFUSED: [Refused; 17] = [
     (
         4,
         "steps = [\"walk 123 from 000\"]\ncarrier = true",
-        Fault::BadKey(Key::Unknown),
-        "bad key unknown",
+        Fault::BadValue(Key::Carrier),
+        "bad value carrier",
     ),
     (
         4,

@@ -3,7 +3,7 @@ use Rattle.std.proofs.Common.{◌≡◌, ◌≢◌, ◌⊎◌, inl, inr, Bool, t
 use Rattle.std.specs.Prelude.{◌↔◌, IfSome, IsSome, IsTrue, MatchOption}
 use Rattle.tap_io.specs.Faults.{HasRisen}
 use Rattle.tap_io.specs.Source.{SourceState}
-use Rattle.tap_scenario.specs.Scenario.{EachStepIsPlayed, IsScript, ScenarioValue}
+use Rattle.tap_scenario.specs.Scenario.{CanBePlayed, IsScript, ScenarioValue}
 use Rattle.tap_scenario.specs.declared.fault.Fault.{Fault}
 use Rattle.tap_log.specs.declared.record.Record.{Record}
 use Rattle.tap_log.specs.declared.record.Record.TheVariants.{Spent as SpentRecord, Finished}
@@ -50,7 +50,7 @@ memory_alone asked old new s wanted = by_make asked.make wanted
 
 -- a run that was had
 pub cause_of_run : (asked : Asked) (old new : SourceState) (s : ScenarioValue) (world : Option WorldValue) (status : Status) → IsScript s
-    → EachStepIsPlayed s → IsWanted asked old new s → HasRunOf s status world → HasCauseOf asked old new world status
+    → CanBePlayed s → IsWanted asked old new s → HasRunOf s status world → HasCauseOf asked old new world status
 cause_of_run asked old new s None status valid plays wanted memory =
     subst (IsNotHad asked old new) (sym memory) (memory_alone asked old new s wanted)
 cause_of_run asked old new s (Some world) status valid plays wanted run =
@@ -233,7 +233,7 @@ source_untouched (Some asked) old new world status cause = made_untouched asked 
 pub record IsRunLog (asked : Asked) (old new : SourceState) (log : List Record) : Type 0 where
   pub script : ScenarioValue
   pub valid : IsScript script
-  pub plays : EachStepIsPlayed script
+  pub plays : CanBePlayed script
   pub wanted : IsWanted asked old new script
   pub run : IsLogOf script log
 

@@ -5,7 +5,7 @@ ghost use Rattle.tap_replay.specs.Player.{HasPlayed, IsLeft, over_by};
 ghost use Rattle.tap_report.specs.Reporter.{Reports, most_records, settings_after};
 ghost use Rattle.tap_report.specs.Text.{IsPrintableLog};
 ghost use Rattle.tap_report.specs.declared.mode.Mode.{Mode as ReportMode};
-ghost use Rattle.tap_scenario.specs.Scenario.{EachStepIsPlayed, IsScript};
+ghost use Rattle.tap_scenario.specs.Scenario.{CanBePlayed, IsScript};
 
 use tap_io::Sink;
 use tap_log::Log;
@@ -37,7 +37,7 @@ pub(crate) fn play<K: Sink>(
     sink: &mut K,
 ) -> End
     requires valid { IsScript scenario.now }
-    requires plays { EachStepIsPlayed scenario.now }
+    requires plays { CanBePlayed scenario.now }
     requires played { HasPlayed scenario.now player.old }
     requires begun { player.old.over ≡ None }
     requires put { reporter.old.records ≡ length player.old.world.log }
@@ -62,7 +62,7 @@ fn turn_and_put<K: Sink>(
     sink: &mut K,
 ) -> Turned
     requires valid { IsScript scenario.now }
-    requires plays { EachStepIsPlayed scenario.now }
+    requires plays { CanBePlayed scenario.now }
     requires played { HasPlayed scenario.now player.old }
     requires begun { player.old.over ≡ None }
     requires put { reporter.old.records ≡ length player.old.world.log }

@@ -7,7 +7,7 @@ ghost use Rattle.tap_lawful.specs.Lawful.{IsLawful};
 ghost use Rattle.tap_replay.specs.Player.{HasPlayed};
 ghost use Rattle.tap_report.specs.Text.{IsPrintableLog};
 ghost use Rattle.tap_report.specs.declared.mode.Mode.{Mode as ReportMode};
-ghost use Rattle.tap_scenario.specs.Scenario.{EachStepIsPlayed, IsScript};
+ghost use Rattle.tap_scenario.specs.Scenario.{CanBePlayed, IsScript};
 ghost use Rattle.tap_top.specs.Ending.{HasCause, HasCauseOf, HasRunAs, HasRunOf, HasWritten, LeavesWorld, log_of, mode_asked, text_of_run};
 ghost use Rattle.tap_top.specs.FaultLine.{fault_line};
 ghost use Rattle.tap_top.specs.AskedLog.{HasRunAll, HasRunShort, IsLogAsked, ends_spent};
@@ -60,7 +60,7 @@ fn print_run<K: Sink>(
     sink: &mut K,
 ) -> Printed
     requires valid { IsScript scenario.now }
-    requires plays { EachStepIsPlayed scenario.now }
+    requires plays { CanBePlayed scenario.now }
     requires played { HasPlayed scenario.now player.old }
     requires begun { player.old.over ≡ None }
     ensures run { HasRunAs scenario.now result.before player.new.world }
@@ -85,7 +85,7 @@ fn print_run<K: Sink>(
 // Runs a scenario, and writes what is printed of it.
 fn run_and_print<K: Sink>(alloc: Global, scenario: &Scenario, mode: Mode, sink: &mut K) -> Ended
     requires valid { IsScript scenario.now }
-    requires plays { EachStepIsPlayed scenario.now }
+    requires plays { CanBePlayed scenario.now }
     ensures run { HasRunOf scenario.now result.before result.world }
     ensures world { LeavesWorld result.before result.world }
     ensures written { HasWritten (K.state sink.old) (K.state sink.new)
@@ -195,7 +195,8 @@ pub fn run<S: Source, K: Sink>(
     ensures world { LeavesWorld result.before result.world }
     ensures nodes { result.before ≡ Status.Done → IfSome result.world HasNodesOfLog }
 
-    // Its log can be printed in each mode. If there is one, it is lawful: that of a run of a scenario each step of which is played.
+    // Its log can be printed in each mode. If there is one, it is lawful: that of a run of a scenario which isn't carried, and of which each
+    // step is played.
     ensures printable { IsPrintableLog (log_of result.world) }
     ensures lawful { (log_of result.world ≡ []) ⊎ IsLawful (log_of result.world) }
 

@@ -11,7 +11,8 @@ returns-in_default-call_of c =
     let step = c.args.step.now in
     let chosen : is_choice step ≡ true = subst (IsCallOf step) c.in_default-call_of.is c.call_of.ensures in
     subst (λ o. WorldAnswersAs o w c.mark.result c.mark.new.self)
-    (mark_runs w c.requires.may c.args.index step chosen (settle_goes w.log step c.requires.played c.in_default.not-Deliver chosen))
+    (mark_runs w c.requires.may c.args.index step chosen
+    (settle_goes w.beginning.settings w.log step c.requires.played c.requires.names c.in_default.not-Deliver chosen))
     c.mark.ensures.answers
 
 pub note-requires : goal.note-requires

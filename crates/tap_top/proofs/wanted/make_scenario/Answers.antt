@@ -1,5 +1,5 @@
 use Rattle.std.proofs.Common.{subst, sym}
-use Rattle.tap_scenario.specs.Scenario.{EachStepIsPlayed, IsScript}
+use Rattle.tap_scenario.specs.Scenario.{CanBePlayed, IsScript}
 use Rattle.tap_make.proofs.Limits.{made_well}
 use Rattle.tap_top.proofs.wanted.make_scenario.Goals as goal
 
@@ -9,4 +9,4 @@ returns-in-Ok-clause-valid c =
 
 pub returns-in-Ok-clause-played : goal.returns-in-Ok-clause-played
 returns-in-Ok-clause-played c =
-    subst EachStepIsPlayed (sym c.in-Ok.ensures) (made_well c.args.joins c.args.seed c.requires.to).played
+    subst CanBePlayed (sym c.in-Ok.ensures) (made_well c.args.joins c.args.seed c.requires.to).played

@@ -22,15 +22,17 @@ run_step-requires-clause-next c =
 
 pub run_step-requires-clause-played : goal.run_step-requires-clause-played
 run_step-requires-clause-played c =
-    all_at (λ step. IsTrue (is_played step)) c.args.scenario.now.steps c.args.self.now.begun c.step_at-step.result c.requires.plays
+    all_at (λ step. IsTrue (is_played step)) c.args.scenario.now.steps c.args.self.now.begun c.step_at-step.result c.requires.plays.steps
     c.step_at-step.ensures.value
 
 pub run_step-requires-clause-names : goal.run_step-requires-clause-names
 run_step-requires-clause-names c =
     let s = c.args.scenario.now in
+    let is : IsStep s.settings s.carrier c.step_at-step.result =
+    all_at (IsStep s.settings s.carrier) s.steps c.args.self.now.begun c.step_at-step.result c.step_at-step.ensures.valid.steps
+    c.step_at-step.ensures.value in
     subst (λ b. IsStep b.settings false c.step_at-step.result) (sym c.requires.run.goes_on.beginning)
-    (all_at (IsStep s.settings false) s.steps c.args.self.now.begun c.step_at-step.result c.step_at-step.ensures.valid.steps
-    c.step_at-step.ensures.value)
+    (subst (λ carrier. IsStep s.settings carrier c.step_at-step.result) c.requires.plays.uncarried is)
 
 pub returns : goal.returns
 returns c =
