@@ -1,0 +1,4 @@
+mod Halves
+mod Digests
+mod Roots
+mod SaltLaws

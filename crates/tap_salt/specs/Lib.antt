@@ -1,0 +1,2 @@
+pub mod Salt
+pub mod SaltLaws
