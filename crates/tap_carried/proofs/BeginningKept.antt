@@ -1,5 +1,5 @@
 -- What holds of each log of turns and its reduced log: it holds of the beginning, and each turn keeps it.
-use Rattle.std.proofs.Common.{Bool, ◌≡◌, ℕ, zero, suc, true, false, List, [], ◌∷◌, take, drop, filter, All, None, refl, ap, sym, ◌∙◌, subst, arith}
+use Rattle.std.proofs.Common.{Bool, ◌≡◌, ℕ, zero, suc, true, false, List, [], ◌∷◌, take, drop, All, None, refl, ap, sym, ◌∙◌, subst, arith}
 use Rattle.std.specs.List.{filter_map, last_or}
 use Rattle.std.proofs.lemmas.Bool.{false≢true}
 use Rattle.std.proofs.lemmas.List.Elements.{All-cons, All-drop, All-nil}

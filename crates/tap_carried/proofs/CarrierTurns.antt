@@ -1,5 +1,5 @@
 -- The turns of a carrier, and that of a root set, may follow.
-use Rattle.std.proofs.Common.{ℕ, ◌+◌, Bool, true, false, List, [], ◌∷◌, All, refl, ap, map}
+use Rattle.std.proofs.Common.{ℕ, List, [], ◌∷◌, All, refl, ap, map}
 use Rattle.std.specs.List.{filter_map}
 use Rattle.std.proofs.lemmas.Bool.{false≢true}
 use Rattle.std.proofs.lemmas.List.Elements.{All-append, All-cons, All-nil}
@@ -47,9 +47,11 @@ carrier_turns_follow = record {
       ((follows, tt), (one_added (packet_record line) (packet_added line), λ starts none. absurd (false≢true starts)));
   roots = λ carried b log index object asker found follows.
       ((follows, tt), (one_added (RootsOf object asker found) (roots_added object asker found), λ starts none. absurd (false≢true starts)));
-  taken = λ b log packet frame items ack follows.
-      (follows, All-append IsAddedRecord (packets_sent log items) (packet_record ack ∷ [])
-      (packets_added log (filter_map sent_number items)) (one_added (packet_record ack) (packet_added ack)));
+  taken = λ b log packet frame items ack follows. (
+    follows,
+    All-append IsAddedRecord (packets_sent log items) (packet_record ack ∷ [])
+        (packets_added log (filter_map sent_number items)) (one_added (packet_record ack) (packet_added ack)),
+  );
   again = λ b log packet ack. (tt, (one_added (packet_record ack) (packet_added ack), refl));
   acknowledged = λ b log packet. (tt, (All-nil IsAddedRecord, refl));
   ticks = λ b log frames. (tt, (packets_added log frames, refl));

@@ -11,6 +11,7 @@ use Rattle.tap_carried.proofs.BeginningKept.{log_kept}
 use Rattle.tap_carried.proofs.SameNodes.{abandoned_are, ceased_is, core_is, gone_is, names_are, present_is, published_is}
 use Rattle.tap_carried.proofs.SameRefusals.{refusal_same}
 use Rattle.tap_carried.proofs.SameTold.{kept_asked, kept_casts, kept_sent, kept_steps, reduced_bytes, reduced_outstanding, reduced_still, reduced_tells}
+use Rattle.tap_carried.proofs.TurnGroups.{turn_reduced}
 use Rattle.tap_carried.proofs.TurnsKept.{IsKept, front_is}
 
 log_agrees : (c : Bool) (log : List Record) → IsKept c log → AgreesWithReduced log
@@ -40,6 +41,7 @@ rest_too c log kept is =
 
 pub logs_agree : LogsAgree
 logs_agree = record {
+  groups = turn_reduced;
   moments = λ c log m is. (log_kept c log is).moments m;
   from = λ c log kept is. (log_kept c log is).from kept;
   front = front_is;

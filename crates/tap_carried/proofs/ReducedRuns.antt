@@ -17,7 +17,7 @@ use Rattle.tap_runs.specs.Beginning.{Beginning, IsWithinLimits, begin_record}
 use Rattle.tap_runs.specs.Course.{Follows, IsCourse, system_of}
 use Rattle.tap_runs.specs.Named.{HasNames, HaveNames}
 use Rattle.tap_runs.proofs.CourseGrows.{course_grows_holds}
-use Rattle.tap_carried.specs.LogTurns.{HasAddedRecords, IsPlainRecord, IsTurn, Turn, beginning_records, group_of_turn, log_after_turns, reduced_group}
+use Rattle.tap_carried.specs.LogTurns.{IsPlainRecord, IsTurn, Turn, beginning_records, group_of_turn, log_after_turns}
 use Rattle.tap_carried.specs.LogTurns.Turn.{Arrives, Steps, Takes, Ticks}
 use Rattle.tap_carried.specs.ReducedLogs.{kept_count}
 use Rattle.tap_carried.specs.ReducedRuns.{IsRunOfTurns, ReducedFollows, ReducesToRun, RunsReduce, TurnFollows, TurnsFollow}
@@ -83,12 +83,16 @@ module _ (c : Bool) (b : Beginning) (log : List Record) (running : IsRunning c b
       }
 
   is_turn : (turn : Turn) → TurnFollows c b log turn → IsTurn c turn
-  is_turn (Steps index step items added) follows =
-      (step_plain b.settings (reduced log) (system_of (reduced log)) running.kept.reduced_begun running.kept.uncarried index step items
-      follows.0.0.may, follows.1)
-  is_turn (Takes packet frame items added) follows =
-      (taken_plain b.settings (reduced log) (system_of (reduced log)) running.kept.reduced_begun running.kept.uncarried frame items
-      follows.0.may, follows.1)
+  is_turn (Steps index step items added) follows = (
+    step_plain b.settings (reduced log) (system_of (reduced log)) running.kept.reduced_begun running.kept.uncarried index step items
+        follows.0.0.may,
+    follows.1,
+  )
+  is_turn (Takes packet frame items added) follows = (
+    taken_plain b.settings (reduced log) (system_of (reduced log)) running.kept.reduced_begun running.kept.uncarried frame items
+        follows.0.may,
+    follows.1,
+  )
   is_turn (Arrives packet added) follows = (tt, follows.1)
   is_turn (Ticks added) follows = (tt, follows.1)
 

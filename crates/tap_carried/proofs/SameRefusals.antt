@@ -1,5 +1,5 @@
 -- A step that starts or observes something is refused alike after a log of turns and after its reduced log.
-use Rattle.std.proofs.Common.{Bool, false, ◌≡◌, ℕ, ◌+◌, true, not, List, [], ◌∷◌, length, drop, Option, None, Some, refl, ap, sym, ◌∙◌}
+use Rattle.std.proofs.Common.{Bool, ◌≡◌, ◌+◌, true, not, List, [], ◌∷◌, length, drop, Option, None, Some, refl, ap, sym, ◌∙◌}
 use Rattle.std.specs.Prelude.{nat_le, nat_lt, ◌&&◌, ◌==◌}
 use Rattle.std.proofs.lemmas.Bool.{false≢true}
 use Rattle.tap_name.specs.Names.{has_name}

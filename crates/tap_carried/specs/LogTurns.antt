@@ -25,10 +25,12 @@ pub record IsAddedRecord (item : Record) : Type 0 where
 
 -- ---- turns
 
--- What a run does next. Each turn is one group: plain records, and then added ones.
+-- What a run does next, as one group of its log. Its plain records stand first, and after them those that are added:
 --
--- A step, and what it does; a frame that is taken, in a carried log out of the packet of this number, and what its receiver does; and in a
--- carried log a packet of this number that arrives while no frame of it is to be taken, and a tick.
+-- - a step with this index, and what it comes to;
+-- - a frame with this number is taken, in a carried log out of the packet with the first number, and its receiver acts;
+-- - a packet with this number arrives, and no frame is taken out of it;
+-- - a tick, at which frames are sent once more.
 pub data Turn : Type 0 where
   Steps : ℕ → Step → List Record → List Record → Turn
   Takes : ℕ → ℕ → List Record → List Record → Turn
@@ -59,8 +61,8 @@ HasPlainRecords (Steps index step items added) = All IsPlainRecord items
 HasPlainRecords (Takes packet frame items added) = All IsPlainRecord items
 HasPlainRecords other = Unit {0}
 
--- The added records of a turn are added, and a start of which nothing else is said has none. Only in a carried log packets arrive, and ticks
--- come.
+-- The added records of a turn are added. A start of which nothing else is said has none, since they would accept it in the one log alone. Only
+-- in a carried log packets arrive with no frame to be taken, and ticks come.
 abbrev pub HasAddedRecords : Bool → Turn → Type 0
 HasAddedRecords carried (Steps index step items added) = All IsAddedRecord added × (is_start step ≡ true → items ≡ [] → added ≡ [])
 HasAddedRecords carried (Takes packet frame items added) = All IsAddedRecord added

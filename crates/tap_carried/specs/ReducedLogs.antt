@@ -15,7 +15,7 @@ use Rattle.tap_history.specs.Moments.{is_moment, is_rest, outstanding}
 use Rattle.tap_history.specs.Names.{names_of}
 use Rattle.tap_history.specs.Published.{published_of}
 use Rattle.tap_history.specs.Refusals.{first_refusal}
-use Rattle.tap_carried.specs.LogTurns.{IsLogOfTurns}
+use Rattle.tap_carried.specs.LogTurns.{IsLogOfTurns, IsTurn, Turn, group_of_turn, reduced_group}
 
 -- ---- what both say
 
@@ -66,9 +66,11 @@ pub record IsFromMoment (log : List Record) (kept : ℕ) : Type 0 where
   pub moment : is_moment log m ≡ true
   pub is : kept_count log m ≡ kept
 
--- Of a log of turns: each of its moments is one of its reduced log, and each moment of the reduced log comes from one of the log. At each of its
--- moments it is a log of turns, and its reduced log then begins the whole one. At a rest its reduced log is at rest, and at each moment both agree.
+-- The reduced log has of a turn what its definition says. Each moment of a log of turns is one of its reduced log, and each moment of that comes
+-- from one of the log. At each of its moments it is a log of turns, and its reduced log then begins the whole one. At a rest its reduced log is at
+-- rest, and at each moment both agree.
 pub record LogsAgree : Type 0 where
+  pub groups : (carried : Bool) (turn : Turn) → IsTurn carried turn → reduced (group_of_turn carried turn) ≡ reduced_group turn
   pub moments : (carried : Bool) (log : List Record) (m : ℕ) → IsLogOfTurns carried log → is_moment log m ≡ true
       → is_moment (reduced log) (kept_count log m) ≡ true
   pub from : (carried : Bool) (log : List Record) (kept : ℕ) → IsLogOfTurns carried log → is_moment (reduced log) kept ≡ true
