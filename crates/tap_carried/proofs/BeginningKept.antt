@@ -1,5 +1,5 @@
 -- What holds of each log of turns and its reduced log: it holds of the beginning, and each turn keeps it.
-use Rattle.std.proofs.Common.{Bool, ◌≡◌, ℕ, zero, suc, true, false, List, [], ◌∷◌, take, drop, All, None, refl, ap, sym, ◌∙◌, subst, arith}
+use Rattle.std.proofs.Common.{Bool, ◌≡◌, ℕ, zero, suc, true, false, List, [], ◌∷◌, take, drop, filter, All, None, refl, ap, sym, ◌∙◌, subst, arith}
 use Rattle.std.specs.List.{filter_map, last_or}
 use Rattle.std.proofs.lemmas.Bool.{false≢true}
 use Rattle.std.proofs.lemmas.List.Elements.{All-cons, All-drop, All-nil}
@@ -9,12 +9,12 @@ use Rattle.tap_log.specs.Kinds.{begins_group, is_carried, step_of}
 use Rattle.tap_log.specs.Reduced.{is_added, reduced}
 use Rattle.tap_history.specs.Departing.{departing_of, last_still}
 use Rattle.tap_history.specs.Moments.{is_moment}
-use Rattle.tap_history.specs.StepAsks.{depart_name}
+use Rattle.tap_history.specs.StepAsks.{depart_name, is_start}
 use Rattle.tap_history.proofs.Instants.{moment-within}
 use Rattle.tap_runs.specs.Beginning.{Beginning, begin_record}
 use Rattle.tap_carried.specs.LogTurns.{IsLogOfTurns, IsTurn, beginning_records}
 use Rattle.tap_carried.specs.ReducedLogs.{kept_count}
-use Rattle.tap_carried.proofs.TurnGroups.{none_accepted}
+use Rattle.tap_carried.proofs.SameStarts.{none_accepted}
 use Rattle.tap_carried.proofs.TurnsKept.{IsKept, turns_kept}
 
 module _ (b : Beginning) where
@@ -65,7 +65,7 @@ module _ (b : Beginning) where
     members = refl;
     reduced_begun = omega arith;
     uncarried = refl;
-    named = λ h starts. ap (filter_map h) (none_accepted true with_carrier no_steps);
+    starts = ap (filter is_start) (none_accepted true with_carrier no_steps);
     departing = alone_departure ∙ sym (none_departs with_carrier no_steps);
     still = λ is. none_departs with_carrier no_steps;
     whole = refl;
@@ -80,7 +80,7 @@ module _ (b : Beginning) where
     members = refl;
     reduced_begun = omega arith;
     uncarried = refl;
-    named = λ h starts. refl;
+    starts = refl;
     departing = refl;
     still = λ is. alone_departure;
     whole = refl;

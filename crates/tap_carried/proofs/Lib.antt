@@ -1,4 +1,5 @@
 mod SameTold
+mod SameStarts
 mod TurnGroups
 mod TurnsKept
 mod BeginningKept

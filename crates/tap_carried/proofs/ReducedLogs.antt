@@ -8,7 +8,7 @@ use Rattle.tap_log.specs.Reduced.{reduced}
 use Rattle.tap_history.specs.Moments.{awaiting, is_none, is_rest, is_still, under_way}
 use Rattle.tap_carried.specs.ReducedLogs.{AgreesWithReduced, LogsAgree}
 use Rattle.tap_carried.proofs.BeginningKept.{log_kept}
-use Rattle.tap_carried.proofs.SameNodes.{abandoned_are, ceased_is, core_is, gone_is, names_are, present_is, published_is}
+use Rattle.tap_carried.proofs.SameNodes.{abandoned_are, ceased_is, core_is, gone_is, names_are, present_is, published_is, starts_are}
 use Rattle.tap_carried.proofs.SameRefusals.{refusal_same}
 use Rattle.tap_carried.proofs.SameTold.{kept_asked, kept_casts, kept_sent, kept_steps, reduced_bytes, reduced_outstanding, reduced_still, reduced_tells}
 use Rattle.tap_carried.proofs.TurnGroups.{turn_reduced}
@@ -30,6 +30,7 @@ log_agrees c log kept = record {
   ceased = ceased_is c log kept;
   published = published_is c log kept;
   departing = kept.departing;
+  starts = starts_are c log kept;
   refusals = refusal_same c log kept;
 }
 

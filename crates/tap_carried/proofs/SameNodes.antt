@@ -1,26 +1,23 @@
 -- Who takes part, and what is published, is the same in a log of turns and in its reduced log.
-use Rattle.std.proofs.Common.{Bool, ◌≡◌, ℕ, List, [], ◌++◌, filter, fold, Option, ap, sym, ◌∙◌}
+use Rattle.std.proofs.Common.{Bool, ◌≡◌, List, [], ◌++◌, filter, fold, ap, sym, ◌∙◌}
 use Rattle.std.specs.List.{filter_map}
 use Rattle.tap_name.specs.Names.{has_name, names_without}
-use Rattle.tap_scenario.specs.declared.step.Step.{Step}
 use Rattle.tap_log.specs.declared.record.Record.{Record}
 use Rattle.tap_log.specs.Kinds.{abandoned_name, core_name, gone_name}
 use Rattle.tap_log.specs.Reduced.{reduced}
-use Rattle.tap_history.specs.Core.{abandoned_of, accepted_in, ceased_of, accepted_steps, core_of, departures_of, gone_of, joins_of, members_of, present_of}
+use Rattle.tap_history.specs.Core.{abandoned_of, ceased_of, accepted_steps, core_of, departures_of, gone_of, joins_of, members_of, present_of}
 use Rattle.tap_history.specs.Names.{names_of, with_name}
 use Rattle.tap_history.specs.Published.{published_of, unwithdrawn_pairs, without_servers}
-use Rattle.tap_history.specs.StepAsks.{depart_name, join_name}
+use Rattle.tap_history.specs.StepAsks.{depart_name, is_start, join_name}
 use Rattle.tap_carried.proofs.SameTold.{kept_abandoned, kept_core, kept_gone, reduced_pairs, reduced_tells}
-use Rattle.tap_carried.proofs.TurnGroups.{IsOfStarts, departs_start, joins_start}
+use Rattle.tap_carried.proofs.SameStarts.{starts_depart, starts_in, starts_join}
 use Rattle.tap_carried.proofs.TurnsKept.{IsKept}
 
 module _ (c : Bool) (log : List Record) (kept : IsKept c log) where
-  steps_named : (h : Step → Option (List ℕ)) → IsOfStarts h → filter_map h (accepted_steps (reduced log)) ≡ filter_map h (accepted_steps log)
-  steps_named h starts =
-      ap (λ d. filter_map h (accepted_in d (reduced log))) kept.uncarried ∙ sym (kept.named h starts)
-      ∙ sym (ap (λ d. filter_map h (accepted_in d log)) kept.carried)
+  pub starts_are : filter is_start (accepted_steps (reduced log)) ≡ filter is_start (accepted_steps log)
+  starts_are =
+      ap (λ d. starts_in d (reduced log)) kept.uncarried ∙ sym kept.starts ∙ sym (ap (λ d. starts_in d log) kept.carried)
 
-module _ (c : Bool) (log : List Record) (kept : IsKept c log) where
   members_are : members_of (reduced log) ≡ members_of log
   members_are = kept.members
 
@@ -28,10 +25,12 @@ module _ (c : Bool) (log : List Record) (kept : IsKept c log) where
   gone_is = reduced_tells gone_name kept_gone log
 
   joins_are : joins_of (reduced log) ≡ joins_of log
-  joins_are = steps_named c log kept join_name joins_start
+  joins_are =
+      sym (starts_join (accepted_steps (reduced log))) ∙ ap (filter_map join_name) starts_are ∙ starts_join (accepted_steps log)
 
   departures_are : departures_of (reduced log) ≡ departures_of log
-  departures_are = steps_named c log kept depart_name departs_start
+  departures_are =
+      sym (starts_depart (accepted_steps (reduced log))) ∙ ap (filter_map depart_name) starts_are ∙ starts_depart (accepted_steps log)
 
   pub abandoned_are : abandoned_of (reduced log) ≡ abandoned_of log
   abandoned_are = reduced_tells abandoned_name kept_abandoned log

@@ -1,11 +1,10 @@
 -- What a log and its reduced log keep with each turn: moments correspond, and who departs is the same.
-use Rattle.std.proofs.Common.{Bool, ◌≡◌, ◌⊎◌, inl, inr, ℕ, ◌≤◌, true, false, List, [], ◌∷◌, ◌++◌, length, take, drop, All, Option, None, refl, ap, sym, ◌∙◌, subst, append-nil, arith, length-append}
+use Rattle.std.proofs.Common.{Bool, ◌≡◌, ◌⊎◌, inl, inr, ℕ, ◌≤◌, true, false, List, [], ◌∷◌, ◌++◌, length, take, drop, filter, All, None, refl, ap, sym, ◌∙◌, subst, append-nil, arith, length-append}
 use Rattle.std.specs.Prelude.{if◌then◌else◌}
 use Rattle.std.specs.List.{filter_map, last_or}
 use Rattle.std.proofs.lemmas.Bool.{cases_Bool, cases_lt, false≢true}
 use Rattle.std.proofs.lemmas.List.{take-append-drop, take-append-le, take_all}
-use Rattle.std.proofs.lemmas.List.Elements.{All-append, All-cons, All-head, All-nil, All-tail, filter_map-append}
-use Rattle.tap_scenario.specs.declared.step.Step.{Step}
+use Rattle.std.proofs.lemmas.List.Elements.{All-append, All-cons, All-head, All-nil, All-tail, filter-append}
 use Rattle.tap_log.specs.declared.record.Record.{Record}
 use Rattle.tap_log.specs.Kinds.{begins_group, is_carried}
 use Rattle.tap_log.specs.Reduced.{reduced}
@@ -13,12 +12,13 @@ use Rattle.tap_history.specs.Core.{accepted_in, members_of}
 use Rattle.tap_history.specs.Departing.{departing_of}
 use Rattle.tap_history.specs.GroupLaws.{IsGroup, departing_after}
 use Rattle.tap_history.specs.Moments.{is_moment, is_still}
-use Rattle.tap_history.specs.StepAsks.{depart_name}
+use Rattle.tap_history.specs.StepAsks.{depart_name, is_start}
 use Rattle.tap_history.proofs.Instants.{moment-within}
 use Rattle.tap_history.proofs.OneMoreGroup.{accepted_in-group, is_carried-group, one_more_group_holds}
 use Rattle.tap_carried.specs.ReducedLogs.{IsFromMoment, kept_count}
 use Rattle.tap_carried.specs.LogTurns.{IsLogOfTurns, IsTurn, Turn, beginning_records, group_of_turn, log_after_turns}
-use Rattle.tap_carried.proofs.TurnGroups.{IsOfStarts, departs_start, reduced-append, turn_group}
+use Rattle.tap_carried.proofs.TurnGroups.{reduced-append, turn_group}
+use Rattle.tap_carried.proofs.SameStarts.{starts_depart, starts_in}
 use Rattle.tap_carried.proofs.SameTold.{reduced_still}
 
 -- the reduced log of a first part begins the whole one
@@ -43,8 +43,7 @@ pub record IsKept (c : Bool) (log : List Record) : Type 0 where
   pub members : members_of (reduced log) ≡ members_of log
   pub reduced_begun : 1 ≤ length (reduced log)
   pub uncarried : is_carried (reduced log) ≡ false
-  pub named : (h : Step → Option (List ℕ)) → IsOfStarts h
-      → filter_map h (accepted_in c log) ≡ filter_map h (accepted_in false (reduced log))
+  pub starts : starts_in c log ≡ starts_in false (reduced log)
   pub departing : departing_of (reduced log) ≡ departing_of log
   pub still : is_still log ≡ true → departing_of log ≡ None
   pub whole : is_moment (reduced log) (length (reduced log)) ≡ true
@@ -126,8 +125,7 @@ module _ (c : Bool) (log : List Record) (kept : IsKept c log) (first : Record) (
   -- the reduced log has a group too
   module _ (to : Record) (to_after : List Record) (reduces : reduced (first ∷ after) ≡ to ∷ to_after)
       (to_begins : begins_group false to ≡ true) (to_alone : All (λ item. begins_group false item ≡ false) to_after)
-      (names : (h : Step → Option (List ℕ)) → IsOfStarts h
-      → filter_map h (accepted_in c (first ∷ after)) ≡ filter_map h (accepted_in false (to ∷ to_after))) where
+      (names : starts_in c (first ∷ after) ≡ starts_in false (to ∷ to_after)) where
     to_group : IsGroup (reduced log) to to_after
     to_group = record {
       begun = kept.reduced_begun;
@@ -173,16 +171,14 @@ module _ (c : Bool) (log : List Record) (kept : IsKept c log) (first : Record) (
               }
         ]
 
-    more_named : (h : Step → Option (List ℕ)) → IsOfStarts h
-        → filter_map h (accepted_in c more) ≡ filter_map h (accepted_in false (reduced more))
-    more_named h starts =
-        ap (filter_map h) (accepted_in-group c log first after begins)
-        ∙ filter_map-append h (accepted_in c log) (accepted_in c (first ∷ after))
-        ∙ ap (λ l. l ++ filter_map h (accepted_in c (first ∷ after))) (kept.named h starts)
-        ∙ ap (λ l. filter_map h (accepted_in false (reduced log)) ++ l) (names h starts)
-        ∙ sym (filter_map-append h (accepted_in false (reduced log)) (accepted_in false (to ∷ to_after)))
-        ∙ sym (ap (filter_map h) (accepted_in-group false (reduced log) to to_after to_begins))
-        ∙ sym (ap (λ l. filter_map h (accepted_in false l)) whole_is)
+    more_starts : starts_in c more ≡ starts_in false (reduced more)
+    more_starts =
+        ap (filter is_start) (accepted_in-group c log first after begins)
+        ∙ filter-append is_start (accepted_in c log) (accepted_in c (first ∷ after)) ∙ ap (λ l. l ++ starts_in c (first ∷ after)) kept.starts
+        ∙ ap (λ l. starts_in false (reduced log) ++ l) names
+        ∙ sym (filter-append is_start (accepted_in false (reduced log)) (accepted_in false (to ∷ to_after)))
+        ∙ sym (ap (filter is_start) (accepted_in-group false (reduced log) to to_after to_begins))
+        ∙ sym (ap (starts_in false) whole_is)
 
     to_departs : departing_of (reduced more) ≡ departing_after (reduced log) (to ∷ to_after)
     to_departs = ap departing_of whole_is ∙ one_more_group_holds.departing (reduced log) to to_after to_group
@@ -192,7 +188,9 @@ module _ (c : Bool) (log : List Record) (kept : IsKept c log) (first : Record) (
         let was : is_still (reduced log ++ to ∷ to_after) ≡ is_still more = ap is_still (sym whole_is) ∙ reduced_still more in
         let leavers : filter_map depart_name (accepted_in (is_carried (reduced log)) (to ∷ to_after))
         ≡ filter_map depart_name (accepted_in (is_carried log) (first ∷ after)) =
-        ap (λ d. filter_map depart_name (accepted_in d (to ∷ to_after))) kept.uncarried ∙ sym (names depart_name departs_start)
+        ap (λ d. filter_map depart_name (accepted_in d (to ∷ to_after))) kept.uncarried
+        ∙ sym (starts_depart (accepted_in false (to ∷ to_after))) ∙ ap (filter_map depart_name) (sym names)
+        ∙ starts_depart (accepted_in c (first ∷ after))
         ∙ sym (ap (λ d. filter_map depart_name (accepted_in d (first ∷ after))) kept.carried) in
         to_departs
         ∙ ap (λ b. if b then None else last_or (departing_of (reduced log)) (filter_map depart_name (accepted_in (is_carried (reduced log)) (to ∷ to_after)))) was
@@ -210,7 +208,7 @@ module _ (c : Bool) (log : List Record) (kept : IsKept c log) (first : Record) (
           ∙ sym (members-append log (first ∷ after) kept.begun);
       reduced_begun = let size = ap length whole_is ∙ length-append (reduced log) (to ∷ to_after) in omega (arith, size);
       uncarried = ap is_carried whole_is ∙ is_carried-group false (reduced log) to to_after to_begins ∙ kept.uncarried;
-      named = more_named;
+      starts = more_starts;
       departing = same_departs;
       still = λ is. departs ∙ ap (λ b. if b then None else last_or (departing_of log) (filter_map depart_name (accepted_in (is_carried log) (first ∷ after)))) is;
       whole = to_whole;
@@ -252,13 +250,11 @@ module _ (c : Bool) (log : List Record) (kept : IsKept c log) (first : Record) (
           is = ap (λ l. length (reduced l)) (taken_of log first after group old.m within) ∙ old.is;
         }
 
-    lost_named : (h : Step → Option (List ℕ)) → IsOfStarts h
-        → filter_map h (accepted_in c more) ≡ filter_map h (accepted_in false (reduced more))
-    lost_named h starts =
-        ap (filter_map h) (accepted_in-group c log first after begins)
-        ∙ filter_map-append h (accepted_in c log) (accepted_in c (first ∷ after))
-        ∙ ap (λ l. filter_map h (accepted_in c log) ++ filter_map h l) none ∙ append-nil (filter_map h (accepted_in c log))
-        ∙ kept.named h starts ∙ sym (ap (λ l. filter_map h (accepted_in false l)) same_is)
+    lost_starts : starts_in c more ≡ starts_in false (reduced more)
+    lost_starts =
+        ap (filter is_start) (accepted_in-group c log first after begins)
+        ∙ filter-append is_start (accepted_in c log) (accepted_in c (first ∷ after))
+        ∙ ap (λ l. starts_in c log ++ filter is_start l) none ∙ append-nil (starts_in c log) ∙ kept.starts ∙ sym (ap (starts_in false) same_is)
 
     -- whoever departed before departs, unless no frame is outstanding
     after_is : departing_of more ≡ (if is_still log then None else departing_of log)
@@ -282,7 +278,7 @@ module _ (c : Bool) (log : List Record) (kept : IsKept c log) (first : Record) (
       members = ap members_of same_is ∙ kept.members ∙ sym (members-append log (first ∷ after) kept.begun);
       reduced_begun = let size = ap length same_is in let some = kept.reduced_begun in omega (arith, size, some);
       uncarried = ap is_carried same_is ∙ kept.uncarried;
-      named = lost_named;
+      starts = lost_starts;
       departing = ap departing_of same_is ∙ kept.departing ∙ sym lost_same;
       still = λ is. lost_same ∙ kept.still (sym same_still ∙ is);
       whole = lost_whole;
@@ -299,12 +295,12 @@ turn_kept c log turn kept is = elim (turn_group c turn is) [
       let next = subst (λ l. IsLogOfTurns c (log ++ l)) g.is (one_more c log turn kept.log_is is) in
       subst (λ l. IsKept c (log ++ l)) (sym g.is)
       (kept_group c log kept g.first g.after g.begins g.alone next g.reduced_first g.reduced_after (sym (ap reduced g.is) ∙ g.reduces)
-      g.reduced_begins g.reduced_alone (λ h starts. sym (ap (λ l. filter_map h (accepted_in c l)) g.is) ∙ g.named h starts))
+      g.reduced_begins g.reduced_alone (sym (ap (starts_in c) g.is) ∙ g.starts))
   | inr g ↦
       let next = subst (λ l. IsLogOfTurns c (log ++ l)) g.is (one_more c log turn kept.log_is is) in
       subst (λ l. IsKept c (log ++ l)) (sym g.is)
       (lost_group c log kept g.first g.after g.begins g.alone next (sym (ap reduced g.is) ∙ g.reduces)
-      (sym (ap (accepted_in c) g.is) ∙ g.named))
+      (sym (ap (accepted_in c) g.is) ∙ g.accepts_none))
 ]
 
 pub turns_kept : (c : Bool) (log : List Record) (turns : List Turn) → IsKept c log → All (IsTurn c) turns → IsKept c (log_after_turns c log turns)

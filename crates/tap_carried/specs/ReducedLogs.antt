@@ -1,7 +1,7 @@
 -- A log and its reduced log agree.
 --
 -- Rule: docs/FORMATS.md, "Groups and moments".
-use Rattle.std.specs.Prelude.{◌≡◌, ℕ, Bool, true, false, List, length, take}
+use Rattle.std.specs.Prelude.{◌≡◌, ℕ, Bool, true, false, List, filter, length, take}
 use Rattle.tap_scenario.specs.declared.step.Step.{Step}
 use Rattle.tap_scenario.specs.declared.step.Step.TheVariants.{Join, Depart, Publish, Withdraw, Find, Walk, Root, RootSet, Table, Pointers, Abandon, Cast}
 use Rattle.tap_log.specs.declared.record.Record.{Record}
@@ -9,12 +9,13 @@ use Rattle.tap_log.specs.Counts.{cast_count, sent_count, ticket_count}
 use Rattle.tap_log.specs.Frames.{bytes_of}
 use Rattle.tap_log.specs.Log.{begun_steps}
 use Rattle.tap_log.specs.Reduced.{reduced}
-use Rattle.tap_history.specs.Core.{abandoned_of, ceased_of, core_of, gone_of, present_of}
+use Rattle.tap_history.specs.Core.{abandoned_of, accepted_steps, ceased_of, core_of, gone_of, present_of}
 use Rattle.tap_history.specs.Departing.{departing_of}
 use Rattle.tap_history.specs.Moments.{is_moment, is_rest, outstanding}
 use Rattle.tap_history.specs.Names.{names_of}
 use Rattle.tap_history.specs.Published.{published_of}
 use Rattle.tap_history.specs.Refusals.{first_refusal}
+use Rattle.tap_history.specs.StepAsks.{is_start}
 use Rattle.tap_carried.specs.LogTurns.{IsLogOfTurns, IsTurn, Turn, group_of_turn, reduced_group}
 
 -- ---- what both say
@@ -35,8 +36,8 @@ starts_or_observes (Table name) = true
 starts_or_observes (Pointers name) = true
 starts_or_observes other = false
 
--- What the log says of frames, counts, nodes and pairs is what its reduced log says; and a step that starts or observes something is refused
--- for the same reason after both, or after neither.
+-- What the log says of frames, counts, nodes and pairs is what its reduced log says, and both accept the same starts. A step that starts or
+-- observes something is refused for the same reason after both, or after neither.
 pub record AgreesWithReduced (log : List Record) : Type 0 where
   pub outstanding : outstanding (reduced log) ≡ outstanding log
   pub bytes : (number : ℕ) → bytes_of (reduced log) number ≡ bytes_of log number
@@ -52,6 +53,7 @@ pub record AgreesWithReduced (log : List Record) : Type 0 where
   pub ceased : ceased_of (reduced log) ≡ ceased_of log
   pub published : published_of (reduced log) ≡ published_of log
   pub departing : departing_of (reduced log) ≡ departing_of log
+  pub starts : filter is_start (accepted_steps (reduced log)) ≡ filter is_start (accepted_steps log)
   pub refusals : (step : Step) → starts_or_observes step ≡ true → first_refusal (reduced log) step ≡ first_refusal log step
 
 -- ---- moments
