@@ -90,11 +90,11 @@ plain_accepts c item is = ap not (plain_one c item is ∙ sym is.uncarried)
 abbrev pub starts_in : Bool → List Record → List Step
 starts_in carried items = filter is_start (accepted_in carried items)
 
--- what only a start has
+-- a name that only a start has
 abbrev IsOfStarts : (Step → Option (List ℕ)) → Type 0
 IsOfStarts h = (step : Step) → is_start step ≡ false → h step ≡ None
 
--- is had by the starts alone
+-- such names are those of the starts among the steps
 of_starts : (h : Step → Option (List ℕ)) → IsOfStarts h → (steps : List Step) → filter_map h (filter is_start steps) ≡ filter_map h steps
 of_starts h only [] = refl
 of_starts h only (step ∷ steps) =
@@ -155,7 +155,7 @@ module _ (c : Bool) where
       ∙ ap (λ b. filter is_start (cons_option (if b then Some step else None) [])) (plain_accepts c next is)
       ∙ sym (one_start false index step next items fewer)
 
-  -- a step is accepted after both, or after neither, if it is a start
+  -- the group of a step accepts the same starts with what is added and without it
   pub step_same : (index : ℕ) (step : Step) (items added : List Record) → IsTurn c (Steps index step items added)
       → starts_in c (StepRecord index step ∷ (items ++ added)) ≡ starts_in false (StepRecord index step ∷ items)
   step_same index step items added is = elim (cases_Bool (is_start step)) [

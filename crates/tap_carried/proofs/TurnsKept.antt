@@ -35,7 +35,7 @@ kept_within log m =
     let both = length-append (reduced (take m log)) (reduced (drop m log)) in
     omega (arith, whole, both)
 
--- what is kept
+-- what holds of a log of turns and its reduced log, and is kept by each turn
 pub record IsKept (c : Bool) (log : List Record) : Type 0 where
   pub log_is : IsLogOfTurns c log
   pub begun : 1 ≤ length log
@@ -125,7 +125,7 @@ module _ (c : Bool) (log : List Record) (kept : IsKept c log) (first : Record) (
   -- the reduced log has a group too
   module _ (to : Record) (to_after : List Record) (reduces : reduced (first ∷ after) ≡ to ∷ to_after)
       (to_begins : begins_group false to ≡ true) (to_alone : All (λ item. begins_group false item ≡ false) to_after)
-      (names : starts_in c (first ∷ after) ≡ starts_in false (to ∷ to_after)) where
+      (same_starts : starts_in c (first ∷ after) ≡ starts_in false (to ∷ to_after)) where
     to_group : IsGroup (reduced log) to to_after
     to_group = record {
       begun = kept.reduced_begun;
@@ -175,7 +175,7 @@ module _ (c : Bool) (log : List Record) (kept : IsKept c log) (first : Record) (
     more_starts =
         ap (filter is_start) (accepted_in-group c log first after begins)
         ∙ filter-append is_start (accepted_in c log) (accepted_in c (first ∷ after)) ∙ ap (λ l. l ++ starts_in c (first ∷ after)) kept.starts
-        ∙ ap (λ l. starts_in false (reduced log) ++ l) names
+        ∙ ap (λ l. starts_in false (reduced log) ++ l) same_starts
         ∙ sym (filter-append is_start (accepted_in false (reduced log)) (accepted_in false (to ∷ to_after)))
         ∙ sym (ap (filter is_start) (accepted_in-group false (reduced log) to to_after to_begins))
         ∙ sym (ap (starts_in false) whole_is)
@@ -189,7 +189,7 @@ module _ (c : Bool) (log : List Record) (kept : IsKept c log) (first : Record) (
         let leavers : filter_map depart_name (accepted_in (is_carried (reduced log)) (to ∷ to_after))
         ≡ filter_map depart_name (accepted_in (is_carried log) (first ∷ after)) =
         ap (λ d. filter_map depart_name (accepted_in d (to ∷ to_after))) kept.uncarried
-        ∙ sym (starts_depart (accepted_in false (to ∷ to_after))) ∙ ap (filter_map depart_name) (sym names)
+        ∙ sym (starts_depart (accepted_in false (to ∷ to_after))) ∙ ap (filter_map depart_name) (sym same_starts)
         ∙ starts_depart (accepted_in c (first ∷ after))
         ∙ sym (ap (λ d. filter_map depart_name (accepted_in d (first ∷ after))) kept.carried) in
         to_departs
