@@ -11,7 +11,8 @@ use Rattle.tap_log.specs.Reduced.{is_added}
 use Rattle.tap_history.specs.StepAsks.{actor_of}
 use Rattle.tap_carried.specs.CarrierTurns.{CarrierTurnsFollow, packets_sent}
 use Rattle.tap_carried.specs.LogTurns.{IsAddedRecord}
-use Rattle.tap_carried.specs.Packets.{PacketLine, data_lines, data_packets, packet_record}
+use Rattle.tap_packets.specs.Groups.{data_lines, data_packets}
+use Rattle.tap_packets.specs.Packets.{PacketLine, packet_record}
 
 packet_added : (line : PacketLine) → IsAddedRecord (packet_record line)
 unfolding is_added begins_group

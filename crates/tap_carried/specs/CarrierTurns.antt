@@ -13,7 +13,8 @@ use Rattle.tap_runs.specs.Beginning.{Beginning}
 use Rattle.tap_runs.specs.Course.{Follows}
 use Rattle.tap_runs.specs.Named.{HasNames}
 use Rattle.tap_carried.specs.LogTurns.Turn.{Arrives, Steps, Takes, Ticks}
-use Rattle.tap_carried.specs.Packets.{PacketLine, data_packets, packet_record}
+use Rattle.tap_packets.specs.Groups.{data_packets}
+use Rattle.tap_packets.specs.Packets.{PacketLine, packet_record}
 use Rattle.tap_carried.specs.ReducedRuns.{TurnFollows}
 
 -- a packet for each frame that these records send

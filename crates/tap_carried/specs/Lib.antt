@@ -1,4 +1,3 @@
-pub mod Packets
 pub mod LogTurns
 pub mod ReducedLogs
 pub mod EndedLogs

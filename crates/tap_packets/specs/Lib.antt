@@ -1,0 +1,9 @@
+pub mod Packets
+pub mod Groups
+pub mod ActsFit
+pub mod Sequence
+pub mod MayCome
+pub mod Matching
+pub mod Bounds
+pub mod PacketLaws
+pub mod Example
