@@ -1,6 +1,6 @@
--- What a net keeps: the numbers that are under way in their order, and beside them the packet of each.
-use Rattle.std.specs.Prelude.{◌≡◌, ℕ, ◌<◌, ◌≤◌, nat_eq, false, List, [], map, length, All, unwrap_or, IsSome}
-use Rattle.indexmap.specs.IndexMap.{IndexMap, get, index_map_len}
+-- What a net keeps: the numbers that are under way in their order, each with the key of its packet, and the packets by their keys.
+use Rattle.std.specs.Prelude.{◌≡◌, ◌≢◌, ℕ, ◌<◌, ◌≤◌, false, List, [], map, length, All, AllPairs, unwrap_or, IsSome}
+use Rattle.slab.specs.Slab.{Slab, get, slab_len}
 use Rattle.tap_outstanding.specs.Outstanding.{OutstandingValue}
 use Rattle.tap_outstanding.specs.declared.outstanding.Flight.{Flight}
 use Rattle.tap_carry.specs.declared.net.Packet.{Packet}
@@ -10,18 +10,23 @@ use Rattle.tap_carry.specs.Net.{numbered}
 abbrev pub no_packet : Packet
 no_packet = record { from = []; to = []; seq = 0; frame = 0; ack = false }
 
--- the packet that is kept for a number
-abbrev pub packet_at : {S : Type 0} → IndexMap ℕ Packet S → ℕ → Packet
-packet_at packets number = unwrap_or (get nat_eq packets number) no_packet
+-- the packet that is kept under a key
+abbrev pub packet_at : Slab Packet → ℕ → Packet
+packet_at packets key = unwrap_or (get packets key) no_packet
 
 -- the packets of these numbers
-abbrev pub packets_of : {S : Type 0} → IndexMap ℕ Packet S → List Flight → List Numbered
-packets_of packets flights = map (λ f. numbered f.number (packet_at packets f.number)) flights
+abbrev pub packets_of : Slab Packet → List Flight → List Numbered
+packets_of packets flights = map (λ f. numbered f.number (packet_at packets f.record_place)) flights
 
--- A packet is kept for each number that is under way, and for no more numbers. Each of these was given. There are places for so many
--- more.
-pub record IsNet {S : Type 0} (places : OutstandingValue) (packets : IndexMap ℕ Packet S) (room : ℕ) : Type 0 where
-  pub kept : All (λ f. IsSome (get nat_eq packets f.number)) places.frames
-  pub few : index_map_len packets ≡ length places.frames
-  pub given : (number : ℕ) → IsSome (get nat_eq packets number) → number < places.sent
+-- the keys of the packets are others
+abbrev pub KeysApart : Flight → Flight → Type 0
+KeysApart a b = a.record_place ≢ b.record_place
+
+-- A packet is kept for each number that is under way, for each under a key of its own, and no more packets are kept. Each number was
+-- given. There are places for so many more.
+pub record IsNet (places : OutstandingValue) (packets : Slab Packet) (room : ℕ) : Type 0 where
+  pub kept : All (λ f. IsSome (get packets f.record_place)) places.frames
+  pub apart : AllPairs KeysApart places.frames
+  pub given : All (λ f. f.number < places.sent) places.frames
+  pub few : slab_len packets ≡ length places.frames
   pub spare : room ≤ places.room

@@ -2,7 +2,7 @@ ghost use Rattle.std.specs.Prelude.{◌≡◌, ◌==◌, ◌<◌, ◌≤◌, ℕ
 ghost use Rattle.tap_carry.specs.Net.{AreUnderWay, most_packets, packet_of, packets_less, put_with, taken_at};
 
 use crate::memory::NoMemory;
-use indexmap::IndexMap;
+use slab::Slab;
 use std::alloc::Global;
 use std::marker::Model;
 use tap_name::Name;
@@ -48,15 +48,15 @@ pub struct Numbered {
 ///
 /// Contracts see how many were put, and those under way in the order of their numbers.
 ///
-/// The places of the numbers under way are found as those of outstanding frames are, and the packets lie beside them
-/// in a hash map by number, whose order nobody reads. So a call takes time that grows with the logarithm of how many
-/// were put. Some 9 bytes are kept for each packet that was put, and the packet itself only while it is under way.
+/// The places of the numbers under way are found as those of outstanding frames are, and with each number is kept the
+/// key of its packet, which lies in a slab. So a call takes time that grows with the logarithm of how many were put. Some
+/// 9 bytes are kept for each packet that was put, and the packet itself only while it is under way.
 ///
 /// Rule: docs/PROTOCOL.md, "Packets".
 #[derive(Drop)]
 pub struct Net {
     places: Outstanding,
-    packets: IndexMap<u32, Packet>,
+    packets: Slab<Packet>,
     // For so many more packets there are places at least.
     room: u32,
 }
@@ -80,7 +80,7 @@ impl Net {
     {
         Net {
             places: Outstanding::new(alloc),
-            packets: IndexMap::new(alloc),
+            packets: Slab::new(alloc),
             room: 0,
         }
     }
@@ -111,11 +111,10 @@ impl Net {
             (if n == self.old.made then Some packet else packet_of self.old.packets n)) }
         ensures err { OnErr result (self.new ≡ self.old) }
     {
-        let number = self.places.sent();
         self.room = make_room(&mut self.places, self.room)?;
-        let _ = self.packets.insert(number, packet)?;
+        let key = self.packets.insert(packet)?;
         self.room -= 1;
-        Ok(self.places.send_reserved(0))
+        Ok(self.places.send_reserved(key))
     }
 
     /// The packet at a place, from 0 for the least number, and `None` exactly if the place is at or above how many are
@@ -123,9 +122,12 @@ impl Net {
     pub fn look(&self, place: u32) -> Option<Numbered>
         ensures { result ≡ slice_get self.now.packets place }
     {
-        let number = self.places.frame_at(place)?.number;
-        let packet = *self.packets.get(&number)?;
-        Some(Numbered { number, packet })
+        let flight = self.places.frame_at(place)?;
+        let packet = *self.packets.get(flight.record_place)?;
+        Some(Numbered {
+            number: flight.number,
+            packet,
+        })
     }
 
     /// Takes the packet at a place; the order of the others stays. `None` comes exactly if the place is at or above
@@ -142,9 +144,12 @@ impl Net {
         if place >= self.places.len() {
             return None;
         }
-        let number = self.places.take(place)?.number;
-        let packet = self.packets.swap_remove(&number)?;
-        Some(Numbered { number, packet })
+        let flight = self.places.take(place)?;
+        let packet = self.packets.try_remove(flight.record_place)?;
+        Some(Numbered {
+            number: flight.number,
+            packet,
+        })
     }
 }
 

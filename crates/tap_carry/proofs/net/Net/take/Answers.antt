@@ -5,33 +5,33 @@ use Rattle.tap_carry.proofs.Packets.{packet_of-less}
 use Rattle.tap_carry.proofs.Kept.{less-taken, net-taken, packet-taken, value-taken}
 use Rattle.tap_carry.proofs.net.Net.take.Goals as goal
 
-at : (c : goal.In_ok-packet) → slice_get c.self.inside.places.frames c.args.place ≡ Some c.in_ok-number.field-0
-at c = sym c.in_ok-number.ensures.frame
+at : (c : goal.In_ok-packet) → slice_get c.self.inside.places.frames c.args.place ≡ Some c.in_ok-flight.flight
+at c = sym c.in_ok-flight.ensures.frame
 
 pub invariant_of-self-2 : goal.invariant_of-self-2
 invariant_of-self-2 c =
-    net-taken c.self.inside.places c.self.inside.packets c.self.inside.room c.self.invariant c.len.ensures.outstanding c.args.place c.in_ok-number.field-0 (at c)
-    c.take.new.self c.in_ok-number.ensures.after c.swap_remove.new.self c.in_ok-packet.ensures.updates.0 c.in_ok-packet.ensures.len
+    net-taken c.self.inside.places c.self.inside.packets c.self.inside.room c.self.invariant c.len.ensures.outstanding c.args.place c.in_ok-flight.flight (at c)
+    c.take.new.self c.in_ok-flight.ensures.after c.try_remove.new.self c.in_ok-packet.ensures.updates c.in_ok-packet.ensures.len
 
 pub returns-clause-packet : goal.returns-clause-packet
 returns-clause-packet c = rw (← c.self.view_is)
-    (packet-taken c.self.inside.places c.self.inside.packets c.self.inside.room c.self.invariant c.len.ensures.outstanding c.args.place c.in_ok-number.field-0 (at c)
-    c.take.new.self c.in_ok-number.ensures.after c.swap_remove.new.self c.in_ok-packet.ensures.updates.0 c.in_ok-packet.packet c.in_ok-packet.ensures.value)
+    (packet-taken c.self.inside.places c.self.inside.packets c.self.inside.room c.self.invariant c.len.ensures.outstanding c.args.place c.in_ok-flight.flight (at c)
+    c.take.new.self c.in_ok-flight.ensures.after c.try_remove.new.self c.in_ok-packet.ensures.updates c.in_ok-packet.packet c.in_ok-packet.ensures.value)
 
 pub returns-clause-after : goal.returns-clause-after
 returns-clause-after c = rw (← c.self.view_is)
-    (value-taken c.self.inside.places c.self.inside.packets c.self.inside.room c.self.invariant c.len.ensures.outstanding c.args.place c.in_ok-number.field-0 (at c)
-    c.take.new.self c.in_ok-number.ensures.after c.swap_remove.new.self c.in_ok-packet.ensures.updates.0)
+    (value-taken c.self.inside.places c.self.inside.packets c.self.inside.room c.self.invariant c.len.ensures.outstanding c.args.place c.in_ok-flight.flight (at c)
+    c.take.new.self c.in_ok-flight.ensures.after c.try_remove.new.self c.in_ok-packet.ensures.updates)
 
-less : (c : goal.In_ok-packet) → packets_of c.swap_remove.new.self c.take.new.self.frames
-    ≡ packets_less (packets_of c.self.inside.packets c.self.inside.places.frames) c.in_ok-number.field-0.number
+less : (c : goal.In_ok-packet) → packets_of c.try_remove.new.self c.take.new.self.frames
+    ≡ packets_less (packets_of c.self.inside.packets c.self.inside.places.frames) c.in_ok-flight.flight.number
 less c =
-    less-taken c.self.inside.places c.self.inside.packets c.self.inside.room c.self.invariant c.len.ensures.outstanding c.args.place c.in_ok-number.field-0 (at c)
-    c.take.new.self c.in_ok-number.ensures.after c.swap_remove.new.self c.in_ok-packet.ensures.updates.0 c.in_ok-packet.packet c.in_ok-packet.ensures.value
+    less-taken c.self.inside.places c.self.inside.packets c.self.inside.room c.self.invariant c.len.ensures.outstanding c.args.place c.in_ok-flight.flight (at c)
+    c.take.new.self c.in_ok-flight.ensures.after c.try_remove.new.self c.in_ok-packet.ensures.updates c.in_ok-packet.packet c.in_ok-packet.ensures.value
 
 pub returns-clause-less : goal.returns-clause-less
 returns-clause-less c = rw (← c.self.view_is) (less c)
 
 pub returns-clause-look_up : goal.returns-clause-look_up
 returns-clause-look_up c = λ n. rw (← c.self.view_is, less c)
-    (packet_of-less (packets_of c.self.inside.packets c.self.inside.places.frames) c.in_ok-number.field-0.number n)
+    (packet_of-less (packets_of c.self.inside.packets c.self.inside.places.frames) c.in_ok-flight.flight.number n)
