@@ -6,6 +6,7 @@ use Rattle.std.specs.Map.{keys_of, lookup, remove_entry}
 use Rattle.std.specs.declared.cmp.Ordering.TheVariants.{Less, Greater}
 use Rattle.std.specs.Ordering.{nat_cmp}
 use Rattle.std.specs.BTreeMap.{BTreeMap, get, insert_entry, is_at}
+use Rattle.indexmap.specs.IndexMap.{IndexMap, get as frame_of}
 use Rattle.std.specs.Cmp.{ranked, nat_cmp_is, nat_cmp_total, eq_by_cmp_equiv}
 use Rattle.std.proofs.lemmas.Bool.{cases_Bool, false_from_ne_true, or_right}
 use Rattle.std.proofs.lemmas.List.{get_or-map, length-map, map-append}
@@ -14,9 +15,9 @@ use Rattle.std.proofs.lemmas.List.Kept.{AllPairs-cons}
 use Rattle.std.proofs.lemmas.List.Folds.{list_any-append}
 use Rattle.std.proofs.lemmas.Map.Views.{All-after_first, All-found, All-keys_from_lookup}
 use Rattle.tap_carry.specs.declared.outbox.Await.{Await}
-use Rattle.tap_carry.specs.Names.{is_same, number_of}
+use Rattle.tap_carry.specs.Names.{is_same, is_way, number_of}
 use Rattle.tap_carry.specs.Outbox.{AreAwaiting, await_with, awaits_less, is_await}
-use Rattle.tap_carry.specs.OutboxKept.{IsOutbox, awaits_of, way_cmp}
+use Rattle.tap_carry.specs.OutboxKept.{IsOutbox, awaits_of}
 use Rattle.tap_carry.proofs.Ways.{frame-itself, one_pair, pair-itself, same_frame}
 
 abbrev pub Ways : Type 0
@@ -45,7 +46,7 @@ remove_entry-last (e ∷ es) frame way below =
     rw apart (ap (λ (l : Ways). e ∷ l) (remove_entry-last es frame way (All-tail (λ k. k < frame) e.0 (keys_of es) below)))
 
 -- all frames that await are below the one that may be sent next
-pub keys-below : (ways : BTreeMap ℕ (List ℕ × ℕ)) (frames : BTreeMap (List ℕ × ℕ) ℕ) (last : List (List ℕ × ℕ)) (next frame : ℕ)
+pub keys-below : {S : Type 0} (ways : BTreeMap ℕ (List ℕ × ℕ)) (frames : IndexMap (List ℕ × ℕ) ℕ S) (last : List (List ℕ × ℕ)) (next frame : ℕ)
     → IsOutbox ways frames last next → next ≤ frame → All (λ k. k < frame) (keys_of ways.entries)
 keys-below ways frames last next frame is above =
     All-keys_from_lookup (eq_by_cmp_equiv nat_cmp_total) (λ k. k < frame) ways.entries (λ k there. below k (get nat_cmp ways k) refl there)
@@ -184,28 +185,28 @@ awaits-acked frame from seq (e ∷ es) sorted agree =
         rw (t, is) (ap (λ (l : List Await). await_from e ∷ l) (later rest))
 
 -- the entries of an outbox
-module _ (ways : BTreeMap ℕ (List ℕ × ℕ)) (frames : BTreeMap (List ℕ × ℕ) ℕ) (last : List (List ℕ × ℕ)) (next : ℕ)
+module _ {S : Type 0} (ways : BTreeMap ℕ (List ℕ × ℕ)) (frames : IndexMap (List ℕ × ℕ) ℕ S) (last : List (List ℕ × ℕ)) (next : ℕ)
     (is : IsOutbox ways frames last next) where
   found : All (λ e. get nat_cmp ways e.0 ≡ Some e.1) ways.entries
   found = All-found nat_cmp_total ways is.ordered
 
   -- the frame of each entry is what the second map has for its receiver and number
   frame-of : (e : ℕ × (List ℕ × ℕ)) (from : List ℕ) (seq : ℕ) → get nat_cmp ways e.0 ≡ Some e.1 → is_await from seq (await_from e) ≡ true
-      → get way_cmp frames (from, seq) ≡ Some e.0
+      → frame_of is_way frames (from, seq) ≡ Some e.0
   frame-of e from seq there same =
       let one = one_pair e.1.0 e.1.1 from seq same in
       let way : e.1 ≡ (from, seq) = λ i. (one.0 i, one.1 i) in
       (is.inverse e.0 (from, seq)).0 (there ∙ ap (λ (w : List ℕ × ℕ). Some w) way)
 
   -- no entry has a receiver and a number that the second map has not
-  pub none-there : (from : List ℕ) (seq : ℕ) → get way_cmp frames (from, seq) ≡ None → NoneIs from seq ways.entries
+  pub none-there : (from : List ℕ) (seq : ℕ) → frame_of is_way frames (from, seq) ≡ None → NoneIs from seq ways.entries
   none-there from seq none k d within =
       let e = get_or ways.entries k d in
       false_from_ne_true (is_await from seq (await_from e))
       (λ same. let x : None ≡ Some e.0 = sym none ∙ frame-of e from seq (found k d within) same in absurd cc)
 
   -- and the one of a frame alone those that it has for this frame
-  pub one-there : (from : List ℕ) (seq frame : ℕ) → get way_cmp frames (from, seq) ≡ Some frame
+  pub one-there : (from : List ℕ) (seq frame : ℕ) → frame_of is_way frames (from, seq) ≡ Some frame
       → All (λ e. is_await from seq (await_from e) ≡ is_at (nat_cmp frame) e.0) ways.entries
   one-there from seq frame there k d within = by (get_or ways.entries k d) (found k d within) (is_await from seq (await_from (get_or ways.entries k d))) refl
     where

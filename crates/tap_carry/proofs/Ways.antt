@@ -4,21 +4,12 @@ use Rattle.std.specs.List.{list_any}
 use Rattle.std.specs.Map.{lookup}
 use Rattle.std.specs.Ordering.{nat_cmp}
 use Rattle.std.specs.BTreeMap.{is_at}
-use Rattle.std.specs.Cmp.{unsigned_tied, tied_then}
-use Rattle.std.specs.Cmp.Lexicographic.{slice_cmp, texts_ties, same_text}
+use Rattle.std.specs.Cmp.{unsigned_tied}
+use Rattle.std.specs.Cmp.Lexicographic.{same_text}
 use Rattle.std.proofs.lemmas.Cmp.{nat_list_eq_equiv}
 use Rattle.std.proofs.lemmas.Bool.{and_parts, eqb-true, eq-eqb}
-use Rattle.tap_carry.specs.Names.{is_name, is_same, number_of}
+use Rattle.tap_carry.specs.Names.{is_name, is_same, is_way, number_of}
 use Rattle.tap_carry.specs.Inbox.{has_pair}
-use Rattle.tap_carry.specs.OutboxKept.{way_cmp}
-
-pub name_at : (x y : List ℕ) → is_at (slice_cmp nat_cmp x) y ≡ is_name x y
-name_at x y = sym (texts_ties x y)
-
-pub way_at : (x : List ℕ) (k : ℕ) (p : List ℕ × ℕ) → is_at (way_cmp (x, k)) p ≡ is_same x k p.0 p.1
-way_at x k p =
-    sym (tied_then (slice_cmp nat_cmp x p.0) (nat_cmp k p.1))
-    ∙ (λ i. name_at x p.0 i && unsigned_tied k p.1 i)
 
 pub same_name : (x y : List ℕ) → is_name x y ≡ true → x ≡ y
 same_name x y e = same_text x y (sym e)
@@ -26,25 +17,12 @@ same_name x y e = same_text x y (sym e)
 pub name-itself : (x : List ℕ) → is_name x x ≡ true
 name-itself x = nat_list_eq_equiv.refl x
 
--- the number of a name is what the map has there
-pub number_at : (numbers : List (List ℕ × ℕ)) (x : List ℕ)
-    → unwrap_or (lookup (is_at (slice_cmp nat_cmp x)) numbers) 0 ≡ number_of numbers x
-number_at numbers x = λ i. unwrap_or (lookup (λ y. name_at x y i) numbers) 0
-
--- a set has a pair exactly if it is among its keys
-pub pair_at : (pairs : List (List ℕ × ℕ)) (x : List ℕ) (k : ℕ) → list_any (is_at (way_cmp (x, k))) pairs ≡ has_pair pairs x k
-pair_at pairs x k = λ i. list_any (λ p. way_at x k p i) pairs
-
 -- what is written at a name is its number, and other names keep theirs
 pub number-updated : (before after : List (List ℕ × ℕ)) (name : List ℕ) (number : ℕ)
-    → ((q : List ℕ) → lookup (is_at (slice_cmp nat_cmp q)) after
-    ≡ cond (is_at (slice_cmp nat_cmp name) q) (Some number) (lookup (is_at (slice_cmp nat_cmp q)) before))
+    → ((q : List ℕ) → lookup (is_name q) after ≡ cond (is_name name q) (Some number) (lookup (is_name q) before))
     → (x : List ℕ) → number_of after x ≡ (if is_name name x then number else number_of before x)
 number-updated before after name number updates x =
-    sym (number_at after x)
-    ∙ ap (λ (o : Option ℕ). unwrap_or o 0) (updates x)
-    ∙ pick (is_at (slice_cmp nat_cmp name) x) (lookup (is_at (slice_cmp nat_cmp x)) before)
-    ∙ (λ i. cond (name_at name x i) number (number_at before x i))
+    ap (λ (o : Option ℕ). unwrap_or o 0) (updates x) ∙ pick (is_name name x) (lookup (is_name x) before)
   where
     pick : (b : Bool) (o : Option ℕ) → unwrap_or (cond b (Some number) o) 0 ≡ cond b number (unwrap_or o 0)
     pick true o = refl
@@ -52,10 +30,9 @@ number-updated before after name number updates x =
 
 -- a pair is put into a set or taken out of it
 pub pair-updated : (before after : List (List ℕ × ℕ)) (name : List ℕ) (number : ℕ) (there : Bool)
-    → ((q : List ℕ × ℕ) → list_any (is_at (way_cmp q)) after ≡ cond (is_at (way_cmp (name, number)) q) there (list_any (is_at (way_cmp q)) before))
+    → ((q : List ℕ × ℕ) → list_any (is_way q) after ≡ cond (is_way (name, number) q) there (list_any (is_way q) before))
     → (x : List ℕ) (k : ℕ) → has_pair after x k ≡ cond (is_same name number x k) there (has_pair before x k)
-pair-updated before after name number there updates x k =
-    sym (pair_at after x k) ∙ updates (x, k) ∙ (λ i. cond (way_at name number (x, k) i) there (pair_at before x k i))
+pair-updated before after name number there updates x k = updates (x, k)
 
 -- the same for numbers as keys
 pub frame_at : (n m : ℕ) → is_at (nat_cmp n) m ≡ (n == m)
@@ -74,8 +51,8 @@ one_pair x k y m e = let both = and_parts (is_name x y) (nat_eq k m) e in (same_
 pub pair-itself : (x : List ℕ) (k : ℕ) → is_same x k x k ≡ true
 pair-itself x k = λ i. name-itself x i && eq-eqb k k refl i
 
-pub same_way : (w v : List ℕ × ℕ) → is_at (way_cmp w) v ≡ true → w ≡ v
-same_way w v e = let both = one_pair w.0 w.1 v.0 v.1 (sym (way_at w.0 w.1 v) ∙ e) in λ i. (both.0 i, both.1 i)
+pub same_way : (w v : List ℕ × ℕ) → is_way w v ≡ true → w ≡ v
+same_way w v e = let both = one_pair w.0 w.1 v.0 v.1 e in λ i. (both.0 i, both.1 i)
 
-pub way-itself : (w : List ℕ × ℕ) → is_at (way_cmp w) w ≡ true
-way-itself w = way_at w.0 w.1 w ∙ pair-itself w.0 w.1
+pub way-itself : (w : List ℕ × ℕ) → is_way w w ≡ true
+way-itself w = pair-itself w.0 w.1

@@ -1,8 +1,6 @@
 ghost use Rattle.std.specs.Prelude.{◌≡◌, ◌+◌, ◌^◌, ◌<◌, ◌≤◌, true, false, not, if◌then◌else◌, [], List, ℕ, IfOk, OnOk, OnErr, Some};
 ghost use Rattle.std.specs.Bool.{OnFalse};
-ghost use Rattle.std.specs.BTreeMap.{get};
-ghost use Rattle.std.specs.Cmp.Lexicographic.{slice_cmp};
-ghost use Rattle.std.specs.Ordering.{nat_cmp};
+ghost use Rattle.indexmap.specs.IndexMap.{get};
 ghost use Rattle.std.specs.Result.{result_ok};
 ghost use Rattle.tap_carry.specs.Arrivals.{IsAnswered};
 ghost use Rattle.tap_carry.specs.Inbox.{ArrivesIn, has_arrived, has_pair};
@@ -11,8 +9,8 @@ ghost use Rattle.tap_carry.specs.Names.{is_name, number_of};
 
 use crate::memory::NoMemory;
 use crate::numbers::number_in;
+use indexmap::{IndexMap, IndexSet};
 use std::alloc::Global;
-use std::collections::{BTreeMap, BTreeSet};
 use std::marker::Model;
 use tap_name::Name;
 
@@ -21,16 +19,16 @@ use tap_name::Name;
 /// Contracts see a test of a sender and a number, `has_arrived`.
 ///
 /// For each sender it keeps the number up to which all have arrived, and beyond that those that have, which is memory
-/// for gaps alone. A call takes time that grows with the logarithm of how many there are; one that fills a gap passes
-/// over the numbers after it, each once in all.
+/// for gaps alone. Both are found by hashes, so a call takes constant time; one that fills a gap passes over the numbers
+/// after it, each once in all.
 ///
 /// Rule: docs/PROTOCOL.md, "Packets".
 #[derive(Drop)]
 pub struct Inbox {
     // The number of each sender up to which all have arrived.
-    reached: BTreeMap<Name, u32>,
+    reached: IndexMap<Name, u32>,
     // Senders and numbers that have arrived beyond.
-    beyond: BTreeSet<(Name, u32)>,
+    beyond: IndexSet<(Name, u32)>,
 }
 
 impl Model for Inbox {
@@ -52,8 +50,8 @@ impl Inbox {
         ensures none { (from : List ℕ) (seq : ℕ) → has_arrived result from seq ≡ false }
     {
         Inbox {
-            reached: BTreeMap::new(alloc),
-            beyond: BTreeSet::new(alloc),
+            reached: IndexMap::new(alloc),
+            beyond: IndexSet::new(alloc),
         }
     }
 
@@ -82,13 +80,13 @@ impl Inbox {
 }
 
 // Takes the numbers of a sender out that come right after this one, each after the other, and gives the last of them.
-fn pass(beyond: &mut BTreeSet<(Name, u32)>, from: Name, seq: u32) -> u32
+fn pass(beyond: &mut IndexSet<(Name, u32)>, from: Name, seq: u32) -> u32
     requires few { (x : List ℕ) (k : ℕ) → has_pair beyond.old.keys x k ≡ true → k < 2 ^ 32 }
     ensures passed { ArePassed beyond.old.keys beyond.new.keys from seq result }
     ensures gap { has_pair beyond.new.keys from (result + 1) ≡ false }
 {
     for end in seq..u32::MAX {
-        if !beyond.remove(&(from, end + 1)) {
+        if !beyond.swap_remove(&(from, end + 1)) {
             return end;
         }
     }
@@ -96,8 +94,8 @@ fn pass(beyond: &mut BTreeSet<(Name, u32)>, from: Name, seq: u32) -> u32
 }
 
 // Raises the number of a sender from this one to the end.
-fn raise(reached: &mut BTreeMap<Name, u32>, from: Name, seq: u32, end: u32)
-    requires { get (slice_cmp nat_cmp) reached.old from ≡ Some seq }
+fn raise(reached: &mut IndexMap<Name, u32>, from: Name, seq: u32, end: u32)
+    requires { get is_name reached.old from ≡ Some seq }
     ensures { (x : List ℕ) →
         number_of reached.new.entries x ≡ (if is_name from x then end else number_of reached.old.entries x) }
 {

@@ -5,6 +5,7 @@ ghost use Rattle.tap_carry.specs.Outbox.{AreAwaiting, SendsTo, acked_by, await_w
 
 use crate::memory::NoMemory;
 use crate::numbers::number_in;
+use indexmap::IndexMap;
 use std::alloc::Global;
 use std::collections::BTreeMap;
 use std::marker::Model;
@@ -33,9 +34,8 @@ pub struct Await {
 /// Contracts see what awaits, ascending by frame, the last number for each receiver, and the least frame that may be
 /// sent.
 ///
-/// What awaits lies in a tree by frame, and the frames in a tree by receiver and number. So a call takes time that
-/// grows with the logarithm of how many receivers there are and how many frames await, and memory is kept for these
-/// alone.
+/// What awaits lies in a tree by frame, and the frames in a hash map by receiver and number. So a call takes time that
+/// grows with the logarithm of how many frames await, and memory is kept for these and the receivers alone.
 ///
 /// Rule: docs/PROTOCOL.md, "Packets".
 #[derive(Drop)]
@@ -43,9 +43,9 @@ pub struct Outbox {
     // The receiver and the number of each frame that awaits.
     ways: BTreeMap<u32, (Name, u32)>,
     // The frame of each of these.
-    frames: BTreeMap<(Name, u32), u32>,
+    frames: IndexMap<(Name, u32), u32>,
     // The last number for each receiver.
-    last: BTreeMap<Name, u32>,
+    last: IndexMap<Name, u32>,
     next: u32,
 }
 
@@ -68,8 +68,8 @@ impl Outbox {
     {
         Outbox {
             ways: BTreeMap::new(alloc),
-            frames: BTreeMap::new(alloc),
-            last: BTreeMap::new(alloc),
+            frames: IndexMap::new(alloc),
+            last: IndexMap::new(alloc),
             next: 0,
         }
     }
@@ -98,12 +98,12 @@ impl Outbox {
         let seq = last + 1;
         self.frames.insert((to, seq), frame)?;
         let Ok(_) = self.ways.insert(frame, (to, seq)) else {
-            let _ = self.frames.remove(&(to, seq));
+            let _ = self.frames.swap_remove(&(to, seq));
             return Err(NoMemory);
         };
         let Ok(_) = self.last.insert(to, seq) else {
             let _ = self.ways.remove(&frame);
-            let _ = self.frames.remove(&(to, seq));
+            let _ = self.frames.swap_remove(&(to, seq));
             return Err(NoMemory);
         };
         self.next = frame + 1;
@@ -119,7 +119,7 @@ impl Outbox {
             awaits_one self.new x k ≡ (awaits_one self.old x k && not (is_same from seq x k)) }
         ensures same { OnFalse result (self.new ≡ self.old) }
     {
-        match self.frames.remove(&(from, seq)) {
+        match self.frames.swap_remove(&(from, seq)) {
             Some(frame) => {
                 let _ = self.ways.remove(&frame);
                 true

@@ -1,7 +1,7 @@
 use Rattle.std.proofs.Common.{◌≡◌, ℕ, ◌+◌, ◌<◌, true, false, Bool, not, List, if◌then◌else◌, refl, sym, ap, ◌∙◌, arith, cond}
 use Rattle.tap_carry.specs.Names.{is_name, is_same, number_of}
 use Rattle.tap_carry.specs.Inbox.{InboxValue, has_arrived, has_pair}
-use Rattle.tap_carry.proofs.Ways.{number-updated, pair-updated, pair_at}
+use Rattle.tap_carry.proofs.Ways.{number-updated, pair-updated}
 use Rattle.tap_carry.proofs.Gaps.{arrives-again, arrives-beyond, arrives-next, beyond-arrived, fresh, gap-beyond, gap-next, reached-arrived}
 use Rattle.tap_carry.proofs.inbox.Inbox.arrived.Goals as goal
 
@@ -32,7 +32,7 @@ pub returns-then-seq-reached-2-clause-first : goal.returns-then-seq-reached-2-cl
 returns-then-seq-reached-2-clause-first c =
     let above : number_of c.self.inside.reached.entries c.args.from < c.args.seq = omega (arith, c.number_in-reached.ensures, c.if-seq-reached-2.true) in
     let box : InboxValue = record { reached = c.self.inside.reached.entries; beyond = c.self.inside.beyond.keys } in
-    rw (← c.self.view_is, beyond-arrived box c.args.from c.args.seq above, ← pair_at c.self.inside.beyond.keys c.args.from c.args.seq)
+    rw (← c.self.view_is, beyond-arrived box c.args.from c.args.seq above)
     c.in_ok-insert.ensures.added
 
 pub returns-then-seq-reached-2-clause-after : goal.returns-then-seq-reached-2-clause-after

@@ -10,8 +10,8 @@ use Rattle.tap_carry.proofs.outbox.Outbox.acked.Goals as goal
 pub invariant_of-self : goal.invariant_of-self
 invariant_of-self c =
     outbox-acked c.self.inside.ways c.self.inside.frames c.self.inside.last.entries c.self.inside.next c.self.invariant
-    c.remove-in-Some.new.self c.remove.new.self (c.args.from, c.args.seq) c.in-Some.frame (sym c.in-Some.ensures.value)
-    c.remove-in-Some.ensures.updates.0 c.remove.ensures.updates.0 c.remove-in-Some.ensures.ordered
+    c.remove.new.self c.swap_remove.new.self (c.args.from, c.args.seq) c.in-Some.frame (sym c.in-Some.ensures.value)
+    c.remove.ensures.updates.0 c.swap_remove.ensures.updates.0 c.remove.ensures.ordered
 
 -- the frame awaited
 pub returns-in-Some-clause-awaited : goal.returns-in-Some-clause-awaited
@@ -19,9 +19,9 @@ returns-in-Some-clause-awaited c = rw (← c.self.view_is)
     (sym (found-there c.in-Some.frame (c.args.from, c.args.seq) c.self.inside.ways.entries
     ((c.self.invariant.inverse c.in-Some.frame (c.args.from, c.args.seq)).1 (sym c.in-Some.ensures.value))))
 
-less : (c : goal.After-remove-in-Some) → awaits_of c.remove-in-Some.new.self.entries ≡ awaits_less (awaits_of c.self.inside.ways.entries) c.args.from c.args.seq
+less : (c : goal.After-remove) → awaits_of c.remove.new.self.entries ≡ awaits_less (awaits_of c.self.inside.ways.entries) c.args.from c.args.seq
 less c =
-    ap (λ (l : Ways). awaits_of l) c.remove-in-Some.ensures.entries
+    ap (λ (l : Ways). awaits_of l) c.remove.ensures.entries
     ∙ awaits-acked c.in-Some.frame c.args.from c.args.seq c.self.inside.ways.entries c.self.invariant.ordered
     (one-there c.self.inside.ways c.self.inside.frames c.self.inside.last.entries c.self.inside.next c.self.invariant c.args.from c.args.seq c.in-Some.frame
     (sym c.in-Some.ensures.value))

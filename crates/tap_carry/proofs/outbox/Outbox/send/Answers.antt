@@ -13,24 +13,24 @@ use Rattle.tap_carry.proofs.outbox.Outbox.send.Goals as goal
 pub invariant_of-self-in_default : goal.invariant_of-self-in_default
 invariant_of-self-in_default c =
     outbox-undone c.self.inside.ways c.self.inside.frames c.self.inside.last.entries c.self.inside.next c.self.invariant
-    c.insert-2.new.self c.insert.new.self c.remove.new.self c.self.inside.last.entries c.args.to (c.number_in-last.result + 1) c.args.frame
+    c.insert-2.new.self c.insert.new.self c.swap_remove.new.self c.self.inside.last.entries c.args.to (c.number_in-last.result + 1) c.args.frame
     (ap (λ (n : ℕ). n + 1) c.number_in-last.ensures) c.in_default.ensures.err refl
-    c.in_ok-insert.ensures.updates.0 c.remove.ensures.updates.0 c.insert-2.ensures.ordered
+    c.in_ok-insert.ensures.updates.0 c.swap_remove.ensures.updates.0 c.insert-2.ensures.ordered
 
 -- nothing was given for the receiver
-as_before : (c : goal.After-remove-in_default-insert-2) → c.remove-in_default-insert.new.self.entries ≡ c.self.inside.ways.entries
+as_before : (c : goal.After-swap_remove-in_default-insert) → c.remove.new.self.entries ≡ c.self.inside.ways.entries
 as_before c =
     let next = ap (λ (o : OutboxValue). o.next) c.self.view_is in
-    put-undone c.self.inside.ways.entries c.insert-2.new.self.entries c.remove-in_default-insert.new.self.entries c.args.frame (c.args.to, c.number_in-last.result + 1)
+    put-undone c.self.inside.ways.entries c.insert-2.new.self.entries c.remove.new.self.entries c.args.frame (c.args.to, c.number_in-last.result + 1)
     (keys-below c.self.inside.ways c.self.inside.frames c.self.inside.last.entries c.self.inside.next c.args.frame c.self.invariant (omega (arith, c.requires.above)))
-    c.in-Ok.ensures.entries c.remove-in_default-insert.ensures.entries
+    c.in-Ok.ensures.entries c.remove.ensures.entries
 
 pub invariant_of-self-in_default-insert : goal.invariant_of-self-in_default-insert
 invariant_of-self-in_default-insert c =
     outbox-undone c.self.inside.ways c.self.inside.frames c.self.inside.last.entries c.self.inside.next c.self.invariant
-    c.remove-in_default-insert.new.self c.insert.new.self c.remove-in_default-insert-2.new.self c.insert-3.new.self.entries c.args.to
+    c.remove.new.self c.insert.new.self c.swap_remove-in_default-insert.new.self c.insert-3.new.self.entries c.args.to
     (c.number_in-last.result + 1) c.args.frame (ap (λ (n : ℕ). n + 1) c.number_in-last.ensures) (as_before c) c.in_default-insert.ensures.err
-    c.in_ok-insert.ensures.updates.0 c.remove-in_default-insert-2.ensures.updates.0 c.remove-in_default-insert.ensures.ordered
+    c.in_ok-insert.ensures.updates.0 c.swap_remove-in_default-insert.ensures.updates.0 c.remove.ensures.ordered
 
 pub returns-in_default-insert-clause-err : goal.returns-in_default-insert-clause-err
 returns-in_default-insert-clause-err c = rw (as_before c, c.in_default-insert.ensures.err) c.self.view_is
