@@ -15,7 +15,7 @@ use Rattle.std.proofs.lemmas.List.Kept.{AllPairs-cons}
 use Rattle.std.proofs.lemmas.List.Folds.{list_any-append}
 use Rattle.std.proofs.lemmas.Map.Views.{All-after_first, All-found, All-keys_from_lookup}
 use Rattle.tap_carry.specs.declared.outbox.Await.{Await}
-use Rattle.tap_carry.specs.Names.{is_same, is_way, number_of}
+use Rattle.tap_carry.specs.Names.{is_same, is_same_way, number_of}
 use Rattle.tap_carry.specs.Outbox.{AreAwaiting, await_with, awaits_less, is_await}
 use Rattle.tap_carry.specs.OutboxKept.{IsOutbox, awaits_of}
 use Rattle.tap_carry.proofs.Ways.{frame-itself, one_pair, pair-itself, same_frame}
@@ -192,21 +192,21 @@ module _ {S : Type 0} (ways : BTreeMap ℕ (List ℕ × ℕ)) (frames : IndexMap
 
   -- the frame of each entry is what the second map has for its receiver and number
   frame-of : (e : ℕ × (List ℕ × ℕ)) (from : List ℕ) (seq : ℕ) → get nat_cmp ways e.0 ≡ Some e.1 → is_await from seq (await_from e) ≡ true
-      → frame_of is_way frames (from, seq) ≡ Some e.0
+      → frame_of is_same_way frames (from, seq) ≡ Some e.0
   frame-of e from seq there same =
       let one = one_pair e.1.0 e.1.1 from seq same in
       let way : e.1 ≡ (from, seq) = λ i. (one.0 i, one.1 i) in
       (is.inverse e.0 (from, seq)).0 (there ∙ ap (λ (w : List ℕ × ℕ). Some w) way)
 
   -- no entry has a receiver and a number that the second map has not
-  pub none-there : (from : List ℕ) (seq : ℕ) → frame_of is_way frames (from, seq) ≡ None → NoneIs from seq ways.entries
+  pub none-there : (from : List ℕ) (seq : ℕ) → frame_of is_same_way frames (from, seq) ≡ None → NoneIs from seq ways.entries
   none-there from seq none k d within =
       let e = get_or ways.entries k d in
       false_from_ne_true (is_await from seq (await_from e))
       (λ same. let x : None ≡ Some e.0 = sym none ∙ frame-of e from seq (found k d within) same in absurd cc)
 
   -- and the one of a frame alone those that it has for this frame
-  pub one-there : (from : List ℕ) (seq frame : ℕ) → frame_of is_way frames (from, seq) ≡ Some frame
+  pub one-there : (from : List ℕ) (seq frame : ℕ) → frame_of is_same_way frames (from, seq) ≡ Some frame
       → All (λ e. is_await from seq (await_from e) ≡ is_at (nat_cmp frame) e.0) ways.entries
   one-there from seq frame there k d within = by (get_or ways.entries k d) (found k d within) (is_await from seq (await_from (get_or ways.entries k d))) refl
     where

@@ -8,7 +8,7 @@ use Rattle.std.specs.Cmp.{unsigned_tied}
 use Rattle.std.specs.Cmp.Lexicographic.{same_text}
 use Rattle.std.proofs.lemmas.Cmp.{nat_list_eq_equiv}
 use Rattle.std.proofs.lemmas.Bool.{and_parts, eqb-true, eq-eqb}
-use Rattle.tap_carry.specs.Names.{is_name, is_same, is_way, number_of}
+use Rattle.tap_carry.specs.Names.{is_name, is_same, is_same_way, number_of}
 use Rattle.tap_carry.specs.Inbox.{has_pair}
 
 pub same_name : (x y : List ℕ) → is_name x y ≡ true → x ≡ y
@@ -30,7 +30,7 @@ number-updated before after name number updates x =
 
 -- a pair is put into a set or taken out of it
 pub pair-updated : (before after : List (List ℕ × ℕ)) (name : List ℕ) (number : ℕ) (there : Bool)
-    → ((q : List ℕ × ℕ) → list_any (is_way q) after ≡ cond (is_way (name, number) q) there (list_any (is_way q) before))
+    → ((q : List ℕ × ℕ) → list_any (is_same_way q) after ≡ cond (is_same_way (name, number) q) there (list_any (is_same_way q) before))
     → (x : List ℕ) (k : ℕ) → has_pair after x k ≡ cond (is_same name number x k) there (has_pair before x k)
 pair-updated before after name number there updates x k = updates (x, k)
 
@@ -51,8 +51,8 @@ one_pair x k y m e = let both = and_parts (is_name x y) (nat_eq k m) e in (same_
 pub pair-itself : (x : List ℕ) (k : ℕ) → is_same x k x k ≡ true
 pair-itself x k = λ i. name-itself x i && eq-eqb k k refl i
 
-pub same_way : (w v : List ℕ × ℕ) → is_way w v ≡ true → w ≡ v
+pub same_way : (w v : List ℕ × ℕ) → is_same_way w v ≡ true → w ≡ v
 same_way w v e = let both = one_pair w.0 w.1 v.0 v.1 e in λ i. (both.0 i, both.1 i)
 
-pub way-itself : (w : List ℕ × ℕ) → is_way w w ≡ true
+pub way-itself : (w : List ℕ × ℕ) → is_same_way w w ≡ true
 way-itself w = pair-itself w.0 w.1

@@ -12,8 +12,8 @@ abbrev pub is_same : List ℕ → ℕ → List ℕ → ℕ → Bool
 is_same name number other_name other_number = is_name name other_name && nat_eq number other_number
 
 -- the same of two pairs
-abbrev pub is_way : List ℕ × ℕ → List ℕ × ℕ → Bool
-is_way way other = is_same way.0 way.1 other.0 other.1
+abbrev pub is_same_way : List ℕ × ℕ → List ℕ × ℕ → Bool
+is_same_way way other = is_same way.0 way.1 other.0 other.1
 
 -- the number that is kept for a name, or 0
 abbrev pub number_of : List (List ℕ × ℕ) → List ℕ → ℕ

@@ -4,7 +4,7 @@ use Rattle.std.specs.Ordering.{nat_cmp}
 use Rattle.std.specs.BTreeMap.{BTreeMap, IsOrdered, get}
 use Rattle.indexmap.specs.IndexMap.{IndexMap, get as frame_of}
 use Rattle.tap_carry.specs.declared.outbox.Await.{Await}
-use Rattle.tap_carry.specs.Names.{is_way, number_of}
+use Rattle.tap_carry.specs.Names.{is_same_way, number_of}
 use Rattle.tap_carry.specs.Outbox.{await_with, most_frames}
 
 -- what awaits, by the receiver and the number of each frame
@@ -19,7 +19,7 @@ AreInverse {A} {B} f g = (a : A) (b : B) → (f a ≡ Some b → g b ≡ Some a)
 -- number was given, and no more were given for a receiver than frames may have been sent.
 pub record IsOutbox {S : Type 0} (ways : BTreeMap ℕ (List ℕ × ℕ)) (frames : IndexMap (List ℕ × ℕ) ℕ S) (last : List (List ℕ × ℕ)) (next : ℕ) : Type 0 where
   pub ordered : IsOrdered nat_cmp ways
-  pub inverse : AreInverse (get nat_cmp ways) (frame_of is_way frames)
+  pub inverse : AreInverse (get nat_cmp ways) (frame_of is_same_way frames)
   pub sent : (frame : ℕ) (way : List ℕ × ℕ) → get nat_cmp ways frame ≡ Some way
       → (frame < next) × (1 ≤ way.1) × (way.1 ≤ number_of last way.0)
   pub few : (to : List ℕ) → number_of last to ≤ next
