@@ -1,6 +1,6 @@
 -- A run of a scenario is one of each other scenario by which a player may turn.
 -- Cited above: may_turn
-use Rattle.std.proofs.Common.{◌≡◌, inl, inr, ℕ, zero, suc, ◌+◌, ◌<◌, ◌≤◌, Bool, true, false, List, [], ◌∷◌, ◌++◌, length, take, Some, refl, ap, sym, subst, ◌∙◌, arith, append-nil}
+use Rattle.std.proofs.Common.{◌≡◌, inl, inr, ℕ, zero, suc, ◌+◌, ◌<◌, ◌≤◌, Bool, true, false, List, [], ◌∷◌, ◌++◌, length, take, Option, None, Some, refl, ap, sym, subst, ◌∙◌, arith, append-nil}
 use Rattle.std.specs.Prelude.{if◌then◌else◌, slice_get}
 use Rattle.std.specs.Option.{option_map, option_map_or}
 use Rattle.std.proofs.lemmas.List.Elements.{filter_map-append}
@@ -19,6 +19,7 @@ use Rattle.tap_runs.specs.Group.{step_records}
 use Rattle.tap_runs.proofs.CourseGrows.{starts_begun}
 use Rattle.tap_engine.specs.Kinds.{finishes_run, is_finished}
 use Rattle.tap_engine.specs.World.{WorldValue}
+use Rattle.tap_lawful.specs.Due.{number_due}
 use Rattle.tap_lawful.specs.Next.{beginning_in, begun_count, group_after, next_group}
 use Rattle.tap_runs.specs.Groups.{step_group, taken_group}
 use Rattle.tap_lawful.specs.Lawful.{IsFinished, IsPlayed, IsSpent, step_alone}
@@ -182,19 +183,35 @@ pub finished_so : (played : List Record) (steps : ℕ) → is_finished (played +
 unfolding finishes_run
 finished_so played steps = ap (λ last. option_map_or finishes_run last false) (last_of-push played (Finished steps))
 
--- a scenario by which a player may turn after the last step is the same
+-- which group comes next is said by the settings and the steps
+next_group_alike : (s other : ScenarioValue) (log : List Record) → other.settings ≡ s.settings → other.steps ≡ s.steps
+    → next_group other log ≡ next_group s log
+next_group_alike s other log settings steps = by_due (number_due log)
+  where
+    by_due : (due : Option ℕ) → group_after other log due ≡ group_after s log due
+    by_due (Some number) = ap (λ p. Some (taken_group p log number)) settings
+    by_due None =
+        ap (λ p. option_map (step_group p log (begun_count log + 1)) (slice_get other.steps (begun_count log))) settings
+        ∙ ap (λ all. option_map (step_group s.settings log (begun_count log + 1)) (slice_get all (begun_count log))) steps
+
+-- a scenario by which a player may turn after the last step has the same steps
 finished_alike : (s other : ScenarioValue) (log played : List Record) → IsPlayed s played → IsFinished s played log → MayTurn other log
     → HasEnded other Done log
 finished_alike s other log played was finished may =
     let rest : List Record = Finished (length s.steps) ∷ [] in
     let beginning = (alike s other log played rest finished.log_is was may).beginning in
+    let settings : other.settings ≡ s.settings = ap (λ (b : Beginning). b.settings) beginning in
     let steps : other.steps ≡ s.steps =
     sym (may.all (ap is_finished finished.log_is ∙ finished_so played (length s.steps))) ∙ ap begun_steps finished.log_is
     ∙ filter_map-same step_of played (Finished (length s.steps)) refl ∙ played_all s played was finished.none in
-    let same : other ≡ s =
-    ap (λ b. record { settings = b.settings; frames = b.frames; members = b.members; steps = other.steps }) beginning
-    ∙ ap (λ l. record { settings = s.settings; frames = s.frames; members = s.members; steps = l }) steps in
-    subst (λ x. HasEnded x Done log) (sym same) (played, was, finished)
+    (
+      played,
+      other_played s other log played rest finished.log_is was may,
+      record {
+        none = next_group_alike s other played settings steps ∙ finished.none;
+        log_is = finished.log_is ∙ ap (λ (all : List Step). played ++ Finished (length all) ∷ []) (sym steps);
+      },
+    )
 
 ended_alike : (s other : ScenarioValue) (end : End) (log : List Record) → HasEnded s end log → MayTurn other log → HasEnded other end log
 ended_alike s other Done log ended may = finished_alike s other log ended.0 ended.1 ended.2 may
