@@ -203,8 +203,7 @@ finished_alike s other log played was finished may =
     let settings : other.settings ≡ s.settings = ap (λ (b : Beginning). b.settings) beginning in
     let steps : other.steps ≡ s.steps =
     sym (may.all (ap is_finished finished.log_is ∙ finished_so played (length s.steps))) ∙ ap begun_steps finished.log_is
-    ∙ filter_map-same step_of played (Finished (length s.steps)) refl ∙ played_all s played was finished.none in
-    (
+    ∙ filter_map-same step_of played (Finished (length s.steps)) refl ∙ played_all s played was finished.none in (
       played,
       other_played s other log played rest finished.log_is was may,
       record {

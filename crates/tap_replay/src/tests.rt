@@ -69,9 +69,7 @@ fn scenario_of(
     let member = name(settings, "00")?;
     let mut members = List::new(alloc);
     members.push(member)?;
-    Ok(Scenario::of(
-        alloc, settings, frames, false, &members, steps,
-    )?)
+    Ok(Scenario::of(alloc, settings, frames, false, &members, steps)?)
 }
 
 // The scenario of those steps.
