@@ -1,5 +1,6 @@
+use crate::counted::{CountedSink, CountedSource};
 use crate::outcome::{PRINTED, run_text, run_words, with_line};
-use std::alloc::Global;
+use std::alloc::{AllocError, Global};
 use std::test::Fail;
 use tap_io::{MemorySink, MemorySource};
 use tap_log::Log;
@@ -64,6 +65,56 @@ fn each_write_fails_once(rt: HostRuntime) -> Result<(), Fail> {
         // The log doesn't depend on the sink.
         assert_eq!(rt; outcome.before, Status::Done, "write {call}");
         assert_eq!(rt; outcome.records, 4, "write {call}");
+    }
+    Ok(())
+}
+
+// No read follows one that fails: the source is called no more.
+#[test]
+fn a_read_that_fails_is_the_last(rt: HostRuntime) -> Result<(), Fail> {
+    let alloc = rt.alloc();
+    let text = with_line(alloc, 5, "")?;
+    // The bytes come in seven pieces of at most 16, and one more read finds the end.
+    for call in 1..=8u32 {
+        let memory = MemorySource::new(alloc, text.as_bytes(), 16, &[call]).map_err(
+            |_| "no memory",
+        )?;
+        let mut source = CountedSource::new(memory);
+        let mut sink = MemorySink::new(alloc, 10, 65536, &[]).map_err(|_| "no memory")?;
+        let words = Vec::new(alloc);
+        let ended = run(alloc, &words, &mut source, &mut sink);
+        assert_eq!(rt; ended.before, Status::ReadFault, "read {call}");
+        assert_eq!(rt; source.calls(), call, "read {call}");
+    }
+    Ok(())
+}
+
+// A scenario of so many walks, whose text comes in some 70 bytes for each.
+fn walks(alloc: Global, count: u32) -> Result<String, AllocError> {
+    let mut text = with_line(alloc, 4, "steps = [")?;
+    for _ in 0..count {
+        text.push_str("\"walk 123 from 000\",\n")?;
+    }
+    text.push_str("]\n")?;
+    Ok(text)
+}
+
+// No write follows one that fails: the sink is called no more, though the run goes on to its end and much text comes after that.
+#[test]
+fn a_write_that_fails_is_the_last(rt: HostRuntime) -> Result<(), Fail> {
+    let alloc = rt.alloc();
+    let text = walks(alloc, 1000)?;
+    for call in 1..=5u32 {
+        let mut source = MemorySource::new(alloc, text.as_bytes(), 4096, &[]).map_err(
+            |_| "no memory",
+        )?;
+        let memory = MemorySink::new(alloc, 8192, 131_072, &[call]).map_err(|_| "no memory")?;
+        let mut sink = CountedSink::new(memory);
+        let words = Vec::new(alloc);
+        let ended = run(alloc, &words, &mut source, &mut sink);
+        assert_eq!(rt; ended.status, Status::WriteFault, "write {call}");
+        assert_eq!(rt; ended.before, Status::Done, "write {call}");
+        assert_eq!(rt; sink.calls(), call, "write {call}");
     }
     Ok(())
 }
