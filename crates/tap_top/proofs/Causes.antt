@@ -1,7 +1,6 @@
 -- Why the top call ends as it does, and what follows of its log.
 use Rattle.std.proofs.Common.{◌≡◌, ◌≢◌, ◌⊎◌, inl, inr, Bool, true, false, List, [], ◌∷◌, length, Option, None, Some, refl, ap, sym, subst, ◌∙◌, ℕ}
 use Rattle.std.specs.Prelude.{◌↔◌, IfSome, IsSome, IsTrue, MatchOption}
-use Rattle.tap_io.specs.Faults.{HasRisen}
 use Rattle.tap_io.specs.Source.{SourceState}
 use Rattle.tap_scenario.specs.Scenario.{CanBePlayed, IsScript, ScenarioValue}
 use Rattle.tap_scenario.specs.declared.fault.Fault.{Fault}
@@ -29,6 +28,7 @@ use Rattle.tap_bounds_runs.proofs.Enough.{never_spent}
 use Rattle.tap_top.specs.Reading.{HasReadFault, HasReadScript, HasReadTooMany}
 use Rattle.tap_top.specs.Status.{status_of_end}
 use Rattle.tap_top.specs.Wanted.{IsNotHad, IsUnread, IsWanted}
+use Rattle.tap_top.proofs.Consumed.{script_read}
 use Rattle.tap_replay.proofs.Running.{unfinished}
 use Rattle.tap_replay.proofs.Lawfulness.{ended_log}
 
@@ -45,7 +45,7 @@ memory_alone asked old new s wanted = by_make asked.make wanted
   where
     by_make : (make : Option ℕ) → MatchOption make (HasReadScript old new s) (λ joins. (s ≡ made joins asked.seed) × (new ≡ old))
         → MatchOption make (IsUnread old new NoMemory) (λ joins. (NoMemory ≡ NoMemory) × (new ≡ old))
-    by_make None read = tt
+    by_make None read = script_read old new s read
     by_make (Some joins) is = (refl, is.1)
 
 -- a run that was had
@@ -179,12 +179,6 @@ pub done_nodes : (asked : Option Asked) (old new : SourceState) (world : Option 
 done_nodes asked old new None cause = tt
 done_nodes None old new (Some world) cause = absurd (refused_so Done cause.2 (λ is. cc) (λ is. cc))
 done_nodes (Some asked) old new (Some world) cause = cause.ended.nodes refl
-
-pub read_failed : (asked : Option Asked) (old new : SourceState) (world : Option WorldValue) → HasCause asked old new world ReadFault
-    → HasRisen old.faults new.faults
-read_failed None old new world cause = absurd (refused_so ReadFault cause.2 (λ is. cc) (λ is. cc))
-read_failed (Some asked) old new world cause =
-    elim (ran_or_unread asked old new world ReadFault cause (λ is. cc)) [ inl unread ↦ unread | inr ran ↦ absurd ran.run.ended ]
 
 pub read_too_many : (asked : Option Asked) (old new : SourceState) (world : Option WorldValue) → HasCause asked old new world TooLong
     → HasReadTooMany old new

@@ -1,4 +1,5 @@
 mod Flushing
 mod Texts
 mod Turning
+mod Consumed
 mod Causes

@@ -1,6 +1,5 @@
 ghost use Rattle.std.specs.Prelude.{IfOk, IsErrOf};
-ghost use Rattle.tap_io.specs.Faults.{HasRisen};
-ghost use Rattle.tap_top.specs.Reading.{HasReadAll, HasReadTooMany};
+ghost use Rattle.tap_top.specs.Reading.{HasReadAll, HasReadTooMany, HasReadUntilFault, HasReadWithoutFault};
 
 use std::alloc::Global;
 use tap_io::{Got, Source};
@@ -21,8 +20,9 @@ pub(crate) enum Unread {
 // Reads a source to its end, or one byte past the limit. The first read that fails ends it.
 pub(crate) fn read_all<S: Source>(alloc: Global, source: &mut S) -> Result<Vec<u8>, Unread>
     ensures all { IfOk result (λ bytes. HasReadAll (S.state source.old) (S.state source.new) bytes.items) }
-    ensures failed { IsErrOf result Unread.Failed → HasRisen (S.state source.old).faults (S.state source.new).faults }
+    ensures failed { IsErrOf result Unread.Failed → HasReadUntilFault (S.state source.old) (S.state source.new) }
     ensures too_long { IsErrOf result Unread.TooLong → HasReadTooMany (S.state source.old) (S.state source.new) }
+    ensures no_memory { IsErrOf result Unread.NoMemory → HasReadWithoutFault (S.state source.old) (S.state source.new) }
 {
     let mut bytes = Vec::new(alloc);
     let mut piece = [0u8; 16384];

@@ -1,4 +1,4 @@
-ghost use Rattle.std.specs.Prelude.{◌≡◌, ◌≢◌, ◌↔◌, ◌⊎◌, [], IfSome, IsSome, IsTrue, MatchOption, None, map};
+ghost use Rattle.std.specs.Prelude.{◌≡◌, ◌≢◌, ◌↔◌, ◌⊎◌, ◌+◌, [], IfSome, IsSome, IsTrue, MatchOption, None, map};
 ghost use Rattle.std.specs.String.{string_bytes};
 ghost use Rattle.tap_engine.specs.Kinds.{is_finished};
 ghost use Rattle.tap_engine.specs.World.{HasNodesOfLog};
@@ -11,7 +11,8 @@ ghost use Rattle.tap_scenario.specs.Scenario.{CanBePlayed, IsScript};
 ghost use Rattle.tap_top.specs.Ending.{HasCause, HasCauseOf, HasRunAs, HasRunOf, HasWritten, LeavesWorld, log_of, mode_asked, text_of_run};
 ghost use Rattle.tap_top.specs.FaultLine.{fault_line};
 ghost use Rattle.tap_top.specs.AskedLog.{HasRunAll, HasRunShort, IsLogAsked, ends_spent};
-ghost use Rattle.tap_top.specs.Reading.{HasReadFault, HasReadTooMany};
+ghost use Rattle.tap_top.specs.Limits.{most_bytes};
+ghost use Rattle.tap_top.specs.Reading.{HasReadAtMost, HasReadFault, HasReadTooMany, HasReadUntilFault, HasReadWithoutFault};
 ghost use Rattle.tap_top.specs.Wanted.{AsksWithin, mode_of};
 ghost use Rattle.tap_words.specs.Words.{asked_by};
 
@@ -180,12 +181,18 @@ pub fn run<S: Source, K: Sink>(
         (λ asked. HasRunShort asked (S.state source.old) (S.state source.new) result.world) }
     ensures finished { (result.before ≡ Status.Done) ↔ IsTrue (is_finished (log_of result.world)) }
     ensures spent { (result.before ≡ Status.Spent) ↔ IsTrue (ends_spent (log_of result.world)) }
-    ensures read_fault { result.before ≡ Status.ReadFault → HasRisen (S.state source.old).faults (S.state source.new).faults }
+    ensures read_fault { result.before ≡ Status.ReadFault → HasReadUntilFault (S.state source.old) (S.state source.new) }
     ensures too_long { result.before ≡ Status.TooLong → HasReadTooMany (S.state source.old) (S.state source.new) }
     ensures not_scenario { (fault : Fault) → result.before ≡ Status.NotScenario fault
         → HasReadFault (S.state source.old) (S.state source.new) fault }
     ensures write_fault { result.status ≡ Status.WriteFault → HasRisen (K.state sink.old).faults (K.state sink.new).faults }
     ensures before { result.before ≢ Status.WriteFault }
+
+    // No more is read than one byte past the limit of a text, and no byte past it unless the text is too long. A read that fails ends the reading:
+    // the source counts a fault exactly if the status is `ReadFault`.
+    ensures read { HasReadAtMost (most_bytes + 1) (S.state source.old) (S.state source.new) }
+    ensures no_memory { result.before ≡ Status.NoMemory → HasReadWithoutFault (S.state source.old) (S.state source.new) }
+    ensures unfailed { result.before ≢ Status.ReadFault → (S.state source.new).faults ≡ (S.state source.old).faults }
 
     // The source isn't touched if the words are refused, or ask for a scenario to be made.
     ensures source { MatchOption (asked_by (map string_bytes words.now.items)) (S.state source.new ≡ S.state source.old)

@@ -20,3 +20,23 @@ returns-then-n-len-clause-too_long g c = λ _.
       consumes = Consumes-trans _ _ _ _ _ so_far.consumes got.bytes;
       faults = got.faults ∙ so_far.faults;
     }
+
+pub returns-then-is_err-clause-no_memory : goal.returns-then-is_err-clause-no_memory
+returns-then-is_err-clause-no_memory g c = λ _.
+    let so_far = c.loop-bytes.invariant in
+    let got = c.in-Got.ensures.answer in
+    let piece = take c.in-Got.n c.read.new.into in
+    record {
+      read = record {
+        bytes = c.loop-bytes.bytes.items ++ piece;
+        within = omega (
+          arith,
+          got.within,
+          so_far.within,
+          length-append c.loop-bytes.bytes.items piece,
+          length-take-le c.in-Got.n c.read.new.into got.within,
+        );
+        consumes = Consumes-trans _ _ _ _ _ so_far.consumes got.bytes;
+      };
+      faults = got.faults ∙ so_far.faults;
+    }

@@ -4,6 +4,7 @@ use Rattle.tap_words.specs.Words.{asked_by}
 use Rattle.tap_top.specs.Ending.{HasCause, log_of}
 use Rattle.tap_top.specs.declared.status.Status.{Status}
 use Rattle.tap_top.proofs.Causes.{done_exactly, done_nodes, done_ran, log_asked, log_last, log_lawful, log_prints, source_untouched, spent_exactly, spent_ran}
+use Rattle.tap_top.proofs.Consumed.{read_for}
 use Rattle.tap_top.proofs.top.run.Goals as goal
 
 pub returns-clause-done : goal.returns-clause-done
@@ -66,3 +67,23 @@ returns-clause-headline g c =
     log_asked (asked_by (map string_bytes c.args.words.now.items)) (g.S.Source.state c.args.source.now)
     (g.S.Source.state c.run_words.new.source) c.run_words.result.world c.run_words.result.before
     (rw c.as_slice.ensures.value at c.run_words.ensures.cause)
+
+pub returns-clause-read_fault : goal.returns-clause-read_fault
+returns-clause-read_fault g c =
+    (read_for (asked_by (map string_bytes c.as_slice.result.now)) (g.S.Source.state c.args.source.now) (g.S.Source.state c.run_words.new.source)
+    c.run_words.result.world c.run_words.result.before c.run_words.ensures.cause).failed
+
+pub returns-clause-read : goal.returns-clause-read
+returns-clause-read g c =
+    (read_for (asked_by (map string_bytes c.as_slice.result.now)) (g.S.Source.state c.args.source.now) (g.S.Source.state c.run_words.new.source)
+    c.run_words.result.world c.run_words.result.before c.run_words.ensures.cause).read
+
+pub returns-clause-no_memory : goal.returns-clause-no_memory
+returns-clause-no_memory g c =
+    (read_for (asked_by (map string_bytes c.as_slice.result.now)) (g.S.Source.state c.args.source.now) (g.S.Source.state c.run_words.new.source)
+    c.run_words.result.world c.run_words.result.before c.run_words.ensures.cause).no_memory
+
+pub returns-clause-unfailed : goal.returns-clause-unfailed
+returns-clause-unfailed g c =
+    (read_for (asked_by (map string_bytes c.as_slice.result.now)) (g.S.Source.state c.args.source.now) (g.S.Source.state c.run_words.new.source)
+    c.run_words.result.world c.run_words.result.before c.run_words.ensures.cause).unfailed
