@@ -1,4 +1,5 @@
 -- What holds of each log of turns and its reduced log: it holds of the beginning, and each turn keeps it.
+-- Cited above: log_kept
 use Rattle.std.proofs.Common.{Bool, ◌≡◌, ℕ, zero, suc, true, false, List, [], ◌∷◌, take, drop, filter, All, None, refl, ap, sym, ◌∙◌, subst, arith}
 use Rattle.std.specs.List.{filter_map, last_or}
 use Rattle.std.proofs.lemmas.Bool.{false≢true}

@@ -1,4 +1,5 @@
 -- The turns of a carrier, and that of a root set, may follow.
+-- Cited above: carrier_turns_follow
 use Rattle.std.proofs.Common.{ℕ, List, [], ◌∷◌, All, refl, ap, map}
 use Rattle.std.specs.List.{filter_map}
 use Rattle.std.proofs.lemmas.Bool.{false≢true}

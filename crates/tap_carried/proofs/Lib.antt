@@ -1,12 +1,12 @@
 mod SameTold
 mod SameStarts
-mod TurnGroups
-mod TurnsKept
-mod BeginningKept
+pub mod TurnGroups
+pub mod TurnsKept
+pub mod BeginningKept
 mod SameNodes
 mod SameRefusals
-mod ReducedLogs
+pub mod ReducedLogs
 mod EndedLogs
-mod PlainRecords
-mod ReducedRuns
-mod CarrierTurns
+pub mod PlainRecords
+pub mod ReducedRuns
+pub mod CarrierTurns

@@ -1,4 +1,5 @@
 -- A log of turns and its reduced log agree.
+-- Cited above: logs_agree
 use Rattle.std.proofs.Common.{Bool, ◌≡◌, true, not, List, length, ap, ◌∙◌}
 use Rattle.std.specs.Prelude.{◌&&◌, ◌||◌}
 use Rattle.std.proofs.lemmas.Bool.{and_parts}

@@ -21,7 +21,7 @@ use Rattle.tap_lawful.specs.PlayedLaws.{BeginsAlike}
 use Rattle.tap_lawful.proofs.Coming.{BeginsNext, TakesDue, coming}
 
 -- the element at a place of the first ones
-at_of_take : {X : Type 0} (n : ℕ) (xs ys zs : List X) (y : X) → take n xs ≡ ys ++ y ∷ zs → slice_get xs (length ys) ≡ Some y
+pub at_of_take : {X : Type 0} (n : ℕ) (xs ys zs : List X) (y : X) → take n xs ≡ ys ++ y ∷ zs → slice_get xs (length ys) ≡ Some y
 at_of_take zero xs [] zs y is = absurd (cc)
 at_of_take zero xs (z ∷ ys) zs y is = absurd (cc)
 at_of_take (suc n) [] [] zs y is = absurd (cc)
@@ -29,7 +29,7 @@ at_of_take (suc n) [] (z ∷ ys) zs y is = absurd (cc)
 at_of_take (suc n) (x ∷ xs) [] zs y is = let same : x ≡ y = cc in ap Some same
 at_of_take (suc n) (x ∷ xs) (z ∷ ys) zs y is = let rest : take n xs ≡ ys ++ y ∷ zs = cc in at_of_take n xs ys zs y rest
 
-begun-append : (log group : List Record) → begun_steps (log ++ group) ≡ begun_steps log ++ begun_steps group
+pub begun-append : (log group : List Record) → begun_steps (log ++ group) ≡ begun_steps log ++ begun_steps group
 begun-append log group = filter_map-append step_of log group
 
 module _ (s other : ScenarioValue) (same : other.settings ≡ s.settings) where

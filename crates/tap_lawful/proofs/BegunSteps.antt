@@ -28,14 +28,14 @@ use Rattle.tap_lawful.proofs.Played.{by_coming}
 -- ---- lists
 
 -- one more element of the first ones
-take_next : {X : Type 0} (n : ℕ) (xs : List X) (x : X) → slice_get xs n ≡ Some x → take (suc n) xs ≡ take n xs ++ x ∷ []
+pub take_next : {X : Type 0} (n : ℕ) (xs : List X) (x : X) → slice_get xs n ≡ Some x → take (suc n) xs ≡ take n xs ++ x ∷ []
 take_next zero [] x at = absurd (cc)
 take_next zero (first ∷ xs) x at = let same : first ≡ x = cc in ap (λ y. y ∷ []) same
 take_next (suc n) [] x at = absurd (cc)
 take_next (suc n) (first ∷ xs) x at = ap (λ l. first ∷ l) (take_next n xs x at)
 
 -- without a next one they are all
-take_all : {X : Type 0} (n : ℕ) (xs : List X) → slice_get xs n ≡ None → take n xs ≡ xs
+pub take_all : {X : Type 0} (n : ℕ) (xs : List X) → slice_get xs n ≡ None → take n xs ≡ xs
 take_all zero [] at = refl
 take_all zero (first ∷ xs) at = absurd (cc)
 take_all (suc n) [] at = refl
@@ -64,7 +64,7 @@ within_none items all = record {
   indices_are = none_of index_of items (λ k d within. no_index (get_or items k d) (all k d within).0);
 }
 
-step_first : (index : ℕ) (step : Step) (items : List Record) → Begins items [] []
+pub step_first : (index : ℕ) (step : Step) (items : List Record) → Begins items [] []
     → Begins (StepRecord index step ∷ items) (step ∷ []) (index ∷ [])
 unfolding index_of
 step_first index step items none =
@@ -88,12 +88,12 @@ module _ (p : SettingsValue) (log : List Record) where
 -- ---- each log of a run
 
 -- the steps are the first ones, and numbered from 1
-record AreFirst (s : ScenarioValue) (log : List Record) : Type 0 where
-  steps : begun_steps log ≡ take (begun_count log) s.steps
-  indices : filter_map index_of log ≡ range_with_len 1 (begun_count log)
+pub record AreFirst (s : ScenarioValue) (log : List Record) : Type 0 where
+  pub steps : begun_steps log ≡ take (begun_count log) s.steps
+  pub indices : filter_map index_of log ≡ range_with_len 1 (begun_count log)
 
 module _ (s : ScenarioValue) where
-  first_grows : (log group : List Record) (steps : List Step) (indices : List ℕ) (count : ℕ) → Begins group steps indices → AreFirst s log
+  pub first_grows : (log group : List Record) (steps : List Step) (indices : List ℕ) (count : ℕ) → Begins group steps indices → AreFirst s log
       → begun_count log + length steps ≡ count → take (begun_count log) s.steps ++ steps ≡ take count s.steps
       → range_with_len 1 (begun_count log) ++ indices ≡ range_with_len 1 count → AreFirst s (log ++ group)
   first_grows log group steps indices count begins first size taken ranged =
@@ -106,7 +106,7 @@ module _ (s : ScenarioValue) where
             ∙ ap (λ l. range_with_len 1 (begun_count log) ++ l) begins.indices_are ∙ ranged ∙ ap (range_with_len 1) (sym counted);
       }
 
-  one_more_index : (count : ℕ) → range_with_len 1 count ++ (count + 1) ∷ [] ≡ range_with_len 1 (count + 1)
+  pub one_more_index : (count : ℕ) → range_with_len 1 count ++ (count + 1) ∷ [] ≡ range_with_len 1 (count + 1)
   one_more_index count =
       ap (λ k. range_with_len 1 count ++ k ∷ []) (let e : count + 1 ≡ 1 + count = omega arith in e) ∙ range-append 1 count 1
 

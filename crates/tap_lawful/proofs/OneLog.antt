@@ -1,77 +1,28 @@
 -- A scenario has one log: of two one begins with the other.
 -- Cited above: one_log_holds
-use Rattle.std.proofs.Common.{◌≡◌, ◌⊎◌, inl, inr, ◌<◌, ◌≤◌, List, [], ◌∷◌, ◌++◌, length, take, refl, ap, sym, subst, ◌∙◌, arith, append-nil, append_assoc}
-use Rattle.std.proofs.Math.Seq.{take-append_seam}
+use Rattle.std.proofs.Common.{◌≡◌, ◌⊎◌, inl, inr, ◌<◌, ◌≤◌, List, [], ◌∷◌, ◌++◌, length, ap, sym, subst, ◌∙◌, arith, append-nil, append_assoc}
 use Rattle.tap_scenario.specs.Scenario.{ScenarioValue}
 use Rattle.tap_log.specs.declared.record.Record.{Record}
 use Rattle.tap_log.specs.declared.record.Record.TheVariants.{Finished, Spent}
 use Rattle.tap_log.specs.Counts.{sent_count}
-use Rattle.tap_history.specs.Groups.{EachGroupFrom, groups_of, records_of}
-use Rattle.tap_history.proofs.Parts.{log_is_groups}
 use Rattle.tap_runs.specs.Beginning.{begin_record}
-use Rattle.tap_lawful.specs.Next.{beginning_in}
-use Rattle.tap_lawful.specs.Lawful.{ComesNext, IsLogOf, IsOver, IsPlayed, IsWholeLogOf, step_alone}
+use Rattle.tap_lawful.specs.Next.{beginning_in, next_group}
+use Rattle.tap_lawful.specs.Lawful.{IsLogOf, IsOver, IsPlayed, IsWholeLogOf, step_alone}
 use Rattle.tap_lawful.specs.PlayedLaws.{BeginsWith, OneLog}
 use Rattle.tap_lawful.proofs.Played.{sent_no_fewer}
+use Rattle.tap_lawful.proofs.SameGroups.{Compared, GoesOn, begins_with, logs_compared}
 
 module _ (s : ScenarioValue) where
-  -- ---- the groups
+  abbrev GoesAfter : List Record → List Record → Type 0
+  GoesAfter = GoesOn (next_group s)
 
-  -- after the one log a group comes with which the other one goes on
-  record GoesOn (one other : List Record) : Type 0 where
-    group : List Record
-    later : List Record
-    comes : ComesNext s one group
-    is : other ≡ (one ++ group) ++ later
-
-  -- two logs are the same, or one goes on
-  abbrev Compared : List Record → List Record → Type 0
-  Compared one other = (one ≡ other) ⊎ (GoesOn one other ⊎ GoesOn other one)
-
-  compared : (before : List Record) (ones others : List (List Record)) → EachGroupFrom (ComesNext s) before ones
-      → EachGroupFrom (ComesNext s) before others → Compared (before ++ records_of ones) (before ++ records_of others)
-  compared before [] [] each also = inl refl
-  compared before [] (other ∷ others) each also =
-      inr (inl (record {
-        group = other;
-        later = records_of others;
-        comes = subst (λ l. ComesNext s l other) (sym (append-nil before)) also.0;
-        is = sym (append_assoc before other (records_of others))
-            ∙ ap (λ l. (l ++ other) ++ records_of others) (sym (append-nil before));
-      }))
-  compared before (one ∷ ones) [] each also =
-      inr (inr (record {
-        group = one;
-        later = records_of ones;
-        comes = subst (λ l. ComesNext s l one) (sym (append-nil before)) each.0;
-        is = sym (append_assoc before one (records_of ones)) ∙ ap (λ l. (l ++ one) ++ records_of ones) (sym (append-nil before));
-      }))
-  compared before (one ∷ ones) (other ∷ others) each also =
-      let same : one ≡ other = let both = sym each.0 ∙ also.0 in cc in
-      let rest = compared (before ++ one) ones others each.1
-      (subst (λ g. EachGroupFrom (ComesNext s) (before ++ g) others) (sym same) also.1) in
-      let all : (before ++ one) ++ records_of others ≡ before ++ records_of (other ∷ others) =
-      append_assoc before one (records_of others) ∙ ap (λ g. before ++ (g ++ records_of others)) same in
-      subst (λ l. Compared l (before ++ records_of (other ∷ others))) (append_assoc before one (records_of ones))
-      (subst (Compared ((before ++ one) ++ records_of ones)) all rest)
-
-  played_compared : (one other : List Record) → IsPlayed s one → IsPlayed s other → Compared one other
+  played_compared : (one other : List Record) → IsPlayed s one → IsPlayed s other → Compared (next_group s) one other
   played_compared one other played also =
-      let from : List Record → Type 0 = λ l. EachGroupFrom (ComesNext s) l (groups_of one) in
-      let onward : List Record → Type 0 = λ l. EachGroupFrom (ComesNext s) l (groups_of other) in
-      let start = begin_record (beginning_in s) ∷ [] in
-      let one_is : start ++ records_of (groups_of one) ≡ one =
-      ap (λ l. l ++ records_of (groups_of one)) (sym played.begins) ∙ log_is_groups one played.going in
-      let other_is : start ++ records_of (groups_of other) ≡ other =
-      ap (λ l. l ++ records_of (groups_of other)) (sym also.begins) ∙ log_is_groups other also.going in
-      subst (λ l. Compared l other) one_is
-      (subst (Compared (start ++ records_of (groups_of one))) other_is
-      (compared start (groups_of one) (groups_of other) (subst from played.begins played.each) (subst onward also.begins also.each)))
-
-  -- ---- the endings
+      logs_compared (next_group s) (begin_record (beginning_in s) ∷ []) one other played.begins also.begins played.going also.going
+      played.each also.each
 
   -- a run that goes on isn't over
-  not_over : (one other log : List Record) → IsPlayed s other → GoesOn one other → IsOver s one log → ⊥
+  not_over : (one other log : List Record) → IsPlayed s other → GoesAfter one other → IsOver s one log → ⊥
   not_over one other log also on (inl finished) = let both = sym finished.none ∙ on.comes in absurd (cc)
   not_over one other log also on (inr spent) =
       let same : spent.group ≡ on.group = let both = sym spent.next ∙ on.comes in cc in
@@ -87,9 +38,6 @@ module _ (s : ScenarioValue) where
   same_over played one other (inr spent) (inr also) =
       let same : spent.group ≡ also.group = let both = sym spent.next ∙ also.next in cc in
       spent.log_is ∙ ap (λ g. played ++ (step_alone g ++ Spent s.frames ∷ [])) same ∙ sym also.log_is
-
-  begins_with : (first rest log : List Record) → log ≡ first ++ rest → BeginsWith first log
-  begins_with first rest log is = ap (take (length first)) is ∙ take-append_seam first rest
 
   same_begins : (first log : List Record) → first ≡ log → BeginsWith first log
   same_begins first log same = begins_with first [] log (sym same ∙ sym (append-nil first))
@@ -114,7 +62,7 @@ module _ (s : ScenarioValue) where
   same_run played one other (inr over) (inr also) = inl (same_begins one other (same_over played one other over also))
 
   -- the log of a run that goes on in the other one begins it
-  goes_begins : (played also one other : List Record) → IsPlayed s also → GoesOn played also → Ending played one → Ending also other
+  goes_begins : (played also one other : List Record) → IsPlayed s also → GoesAfter played also → Ending played one → Ending also other
       → BeginsWith one other
   goes_begins played also one other is_played on (inl is) ending =
       let after = ending_after also other ending in

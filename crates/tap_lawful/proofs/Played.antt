@@ -81,7 +81,7 @@ module _ (s : ScenarioValue) where
         each_follows (before ++ group) groups each.1 rest,
       )
 
-  script_within : IsScript s → IsWithinLimits (beginning_in s)
+  pub script_within : IsScript s → IsWithinLimits (beginning_in s)
   script_within valid = record {
     settings = valid.settings;
     frames_from = valid.frames_from;

@@ -1,3 +1,4 @@
+ghost use Rattle.tap_lawful.specs.CarriedLaws.{CarriedGroupsMove, CarriedGrows, CarriedRunsReduce, OneCarriedLog};
 ghost use Rattle.tap_lawful.specs.PlayedLaws.{OneLog, PlayedGrows};
 
 /// The log of a run grows group by group, and each time less is left of the run. It is the course of a run. Its steps are the first
@@ -18,4 +19,45 @@ pub fn lawful_law()
 /// Rule: docs/FORMATS.md, "What comes next".
 pub fn one_log_law()
     ensures { OneLog }
+{}
+
+/// The log of a carried run is one of turns that may follow, so its reduced log agrees with it and is that of a run. So it is at each of
+/// its moments.
+///
+/// It does nothing: its contract is the law.
+///
+/// Rule: docs/FORMATS.md, "What comes next".
+pub fn carried_law()
+    ensures { CarriedRunsReduce }
+{}
+
+/// Each group that comes next in a carried run is that of a move of a carrier which may come. So each record may come after those before it,
+/// a measure falls with each group, and at most two packets are made for each frame that may be sent and each step, and 200,000 more. There
+/// are at most two groups for each step and each packet.
+///
+/// It does nothing: its contract is the law.
+///
+/// Rule: docs/FORMATS.md, "What comes next".
+pub fn carried_moves_law()
+    ensures { CarriedGroupsMove }
+{}
+
+/// The log of a carried run grows group by group. Its steps are the first ones of the scenario, numbered from 1, and all of them once no
+/// group comes next.
+///
+/// It does nothing: its contract is the law.
+///
+/// Rule: docs/FORMATS.md, "What comes next".
+pub fn carried_growth_law()
+    ensures { CarriedGrows }
+{}
+
+/// A scenario has one log of carried runs, however far one has come: of two one begins with the other, and two of runs that are over are
+/// one.
+///
+/// It does nothing: its contract is the law.
+///
+/// Rule: docs/FORMATS.md, "What comes next".
+pub fn one_carried_log_law()
+    ensures { OneCarriedLog }
 {}

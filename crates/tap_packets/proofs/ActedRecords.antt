@@ -1,4 +1,5 @@
 -- What a node does by the reduced log may stand in the whole one.
+-- Cited above: acts_fit_holds
 use Rattle.std.proofs.Common.{◌≡◌, ℕ, ◌+◌, Bool, true, false, not, List, [], ◌∷◌, ◌++◌, length, Option, None, refl, ap, sym, ◌∙◌, cond, subst, append-nil, All}
 use Rattle.std.specs.List.{filter_map, cons_option, range_with_len}
 use Rattle.std.proofs.lemmas.Bool.{false≢true}

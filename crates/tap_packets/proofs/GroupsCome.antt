@@ -1,4 +1,5 @@
 -- Each record of a carrier's group may come after those before it.
+-- Cited above: groups_follow_hold
 use Rattle.std.proofs.Common.{◌≡◌, ℕ, ◌+◌, ◌<◌, Bool, true, false, not, nat_eq, List, [], ◌∷◌, ◌++◌, length, map, None, refl, ap, sym, ◌∙◌, arith, subst, inl, inr, length-append, append-nil}
 use Rattle.std.specs.Prelude.{◌&&◌, ◌||◌, Contains}
 use Rattle.std.proofs.lemmas.Bool.{eq-eqb, cases_Bool, or_left, or_right, false≢true}

@@ -5,8 +5,8 @@ mod KeptForms
 mod MoreUnderWay
 mod KeptPackets
 mod RecordsCome
-mod GroupsCome
-mod ActedRecords
+pub mod GroupsCome
+pub mod ActedRecords
 mod TakenOnce
 mod StableWays
 mod WaysOfBytes
@@ -23,5 +23,5 @@ mod StrandedFrames
 mod MoveEffects
 mod MeasureFalls
 mod ClockTurns
-mod RunsEnd
+pub mod RunsEnd
 mod LostPacket

@@ -1,0 +1,237 @@
+-- The group that comes next in a carried run is a turn that may follow.
+use Rattle.std.proofs.Common.{◌≡◌, inl, inr, ℕ, ◌+◌, ◌≤◌, Bool, true, false, List, [], ◌∷◌, ◌++◌, All, Option, None, Some, refl, ap, sym, subst, ◌∙◌, arith}
+use Rattle.std.specs.Prelude.{slice_get}
+use Rattle.std.proofs.lemmas.Bool.{false≢true}
+use Rattle.std.proofs.lemmas.List.Elements.{All-get_or, All-nil}
+use Rattle.std.proofs.lemmas.Option.{get_or_from_slice_get, slice_get_within}
+use Rattle.tap_name.specs.Settings.{SettingsValue}
+use Rattle.tap_scenario.specs.Scenario.{ScenarioValue}
+use Rattle.tap_scenario.specs.Step.{IsStep}
+use Rattle.tap_scenario.specs.declared.step.Step.{Step}
+use Rattle.tap_scenario.specs.declared.step.Step.TheVariants.{Deliver, Settle, SettleNewest, SettleMixed, Garble, Cut, Tick, Lose, Repeat}
+use Rattle.tap_log.specs.declared.record.Record.{Record}
+use Rattle.tap_log.specs.declared.record.Record.TheVariants.{Step as StepRecord, Taken, Arrived, Refused}
+use Rattle.tap_log.specs.declared.record.Refusal.{Refusal}
+use Rattle.tap_log.specs.Counts.{packet_count, sent_count}
+use Rattle.tap_log.specs.Reduced.{reduced}
+use Rattle.tap_history.specs.Moments.{awaiting, has_number, outstanding}
+use Rattle.tap_history.specs.Refusals.{first_refusal}
+use Rattle.tap_packets.specs.Groups.{ack_line, arrival_records}
+use Rattle.tap_packets.specs.Packets.{PacketLine, lines_under_way, packet_record}
+use Rattle.tap_runs.specs.Beginning.{Beginning}
+use Rattle.tap_runs.specs.Course.{FollowStep, Follows, MayFollow, is_choice, system_of}
+use Rattle.tap_runs.specs.Group.{records_unless}
+use Rattle.tap_runs.proofs.StepNames.{step_of_scenario_has_names}
+use Rattle.tap_carried.specs.CarrierTurns.{packets_sent}
+use Rattle.tap_carried.specs.LogTurns.{IsAddedRecord, Turn, group_of_turn}
+use Rattle.tap_carried.specs.LogTurns.Turn.{Arrives, Steps, Takes, Ticks}
+use Rattle.tap_carried.specs.ReducedLogs.{AgreesWithReduced, starts_or_observes}
+use Rattle.tap_carried.specs.ReducedRuns.{IsRunOfTurns, TurnFollows}
+use Rattle.tap_carried.proofs.CarrierTurns.{carrier_turns_follow}
+use Rattle.tap_carried.proofs.ReducedLogs.{logs_agree}
+use Rattle.tap_carried.proofs.ReducedRuns.{runs_reduce}
+use Rattle.tap_lawful.specs.CarriedNext.{accepted_group, choice_group, group_unless, losing_group, reduced_step_records, reduced_taken_records, repeating_group}
+use Rattle.tap_lawful.specs.CarriedRuns.{CarriedComesNext}
+use Rattle.tap_lawful.specs.Next.{beginning_in, begun_count}
+use Rattle.tap_lawful.proofs.CarriedComing.{carried_coming}
+use Rattle.tap_lawful.proofs.Played.{sent_count-append, sent_no_fewer}
+
+-- ---- steps of a carried scenario
+
+-- no copies are damaged: what is no choice starts or observes something
+no_damage : (p : SettingsValue) (step : Step) → IsStep p true step → is_choice step ≡ false → starts_or_observes step ≡ true
+unfolding is_choice starts_or_observes
+no_damage p (Garble place at byte) is choice = absurd (false≢true (sym is.0))
+no_damage p (Cut place bytes) is choice = absurd (false≢true (sym is.0))
+no_damage p (Deliver place) is choice = absurd (false≢true (sym choice))
+no_damage p Settle is choice = absurd (false≢true (sym choice))
+no_damage p SettleNewest is choice = absurd (false≢true (sym choice))
+no_damage p (SettleMixed seed) is choice = absurd (false≢true (sym choice))
+no_damage p Tick is choice = absurd (false≢true (sym choice))
+no_damage p (Lose place) is choice = absurd (false≢true (sym choice))
+no_damage p (Repeat place) is choice = absurd (false≢true (sym choice))
+no_damage p step is choice = refl
+
+-- the step that is begun next is one of the scenario's
+pub next_is_step : (P : Step → Type 0) (steps : List Step) (n : ℕ) (step : Step) → All P steps → slice_get steps n ≡ Some step → P step
+next_is_step P steps n step all at =
+    subst P (get_or_from_slice_get steps n step step at) (All-get_or P steps n step (slice_get_within steps n step at) all)
+
+-- ---- turns
+
+-- the group is that of a turn which may follow
+pub record IsTurnGroup (b : Beginning) (log group : List Record) : Type 0 where
+  pub turn : Turn
+  pub is : group_of_turn true turn ≡ group
+  pub follows : TurnFollows true b log turn
+
+module _ (s : ScenarioValue) (log : List Record) (run : IsRunOfTurns true (beginning_in s) log) where
+  abbrev b : Beginning
+  b = beginning_in s
+
+  abbrev before : List Record
+  before = reduced log
+
+  agrees : AgreesWithReduced log
+  agrees = logs_agree.agree true log (runs_reduce.turns true b log run)
+
+  -- what becomes of a group sends no more
+  fits : (first items added group : List Record) → first ++ (items ++ added) ≡ group → sent_count (log ++ group) ≤ s.frames
+      → sent_count (before ++ items) ≤ s.frames
+  fits first items added group is within =
+      let here = sent_count-append before items in
+      let whole = sent_count-append log group in
+      let same = agrees.sent in
+      let parts = ap sent_count (sym is) ∙ sent_count-append first (items ++ added) in
+      let fewer = sent_no_fewer items added in
+      omega (arith, here, whole, same, parts, fewer, within)
+
+  -- ---- a packet arrives
+
+  module _ (line : PacketLine) where
+    abbrev items : List Record
+    items = reduced_taken_records s.settings log line.frame
+
+    taken_follows : has_number (outstanding log) line.frame ≡ true → sent_count (before ++ Taken line.frame ∷ items) ≤ s.frames
+        → Follows b before (Taken line.frame ∷ items)
+    unfolding MayFollow
+    taken_follows waits within = record {
+      may = record { waits = ap (λ l. has_number l line.frame) agrees.outstanding ∙ waits; are = refl };
+      within = within;
+    }
+
+    arrival_turn : (ack waits : Bool) (group : List Record) → has_number (outstanding log) line.frame ≡ waits
+        → Arrived line.number ∷ arrival_records log line items ack waits ≡ group → sent_count (log ++ group) ≤ s.frames
+        → IsTurnGroup b log group
+    arrival_turn true waits group are is within = record {
+      turn = Arrives line.number [];
+      is = is;
+      follows = carrier_turns_follow.acknowledged b log line.number;
+    }
+    arrival_turn false true group are is within =
+        let ack = ack_line (packet_count log + sent_count items) line.frame in
+        let added = packets_sent log items ++ packet_record ack ∷ [] in
+        record {
+          turn = Takes line.number line.frame items added;
+          is = is;
+          follows = carrier_turns_follow.taken b log line.number line.frame items ack
+              (taken_follows are (fits (Arrived line.number ∷ []) (Taken line.frame ∷ items) added group is within));
+        }
+    arrival_turn false false group are is within =
+        let ack = ack_line (packet_count log) line.frame in
+        record {
+          turn = Arrives line.number (packet_record ack ∷ []);
+          is = is;
+          follows = carrier_turns_follow.again b log line.number ack;
+        }
+
+  -- ---- a step begins
+
+  module _ (index : ℕ) (step : Step) (valid : IsStep s.settings true step) (group : List Record)
+      (within : sent_count (log ++ group) ≤ s.frames) where
+    abbrev done : List Record
+    done = reduced_step_records s.settings log index step
+
+    abbrev Says : List Record → Type 0
+    Says items = FollowStep (is_choice step) s.settings before (system_of before) index step items
+
+    step_follows : (items added : List Record) → StepRecord index step ∷ (items ++ added) ≡ group → Says items
+        → Follows b before (StepRecord index step ∷ items)
+    unfolding MayFollow
+    step_follows items added is may =
+        record { may = may; within = fits [] (StepRecord index step ∷ items) added group is within }
+
+    nothing_added : (items : List Record) → StepRecord index step ∷ (items ++ []) ≡ group → Says items → IsTurnGroup b log group
+    nothing_added items is may = record {
+      turn = Steps index step items [];
+      is = is;
+      follows = ((step_follows items [] is may, step_of_scenario_has_names s.settings true step valid), (All-nil IsAddedRecord, λ starts none. refl));
+    }
+
+    -- the refusal is that of the reduced log, or it is of a choice
+    refused_says : (choice : Bool) (refusal : Refusal) → is_choice step ≡ choice → first_refusal log step ≡ Some refusal
+        → FollowStep choice s.settings before (system_of before) index step (Refused index refusal ∷ [])
+    refused_says true refusal is refused = inr (record { refusal = refusal; is = refl })
+    refused_says false refusal is refused =
+        let same : first_refusal before step ≡ Some refusal = agrees.refusals step (no_damage s.settings step valid is) ∙ refused in
+        sym (ap (records_unless s.settings before (system_of before) index step) same)
+
+    -- a choice says nothing in the reduced log
+    choice_says : (choice : Bool) → choice ≡ true → FollowStep choice s.settings before (system_of before) index step []
+    choice_says true is = inl refl
+    choice_says false is = absurd (false≢true is)
+
+    acted_says : (choice : Bool) → choice ≡ false → FollowStep choice s.settings before (system_of before) index step done
+    acted_says true is = absurd (false≢true (sym is))
+    acted_says false is = refl
+
+    acted_turn : is_choice step ≡ false → StepRecord index step ∷ (done ++ packets_sent log done) ≡ group → IsTurnGroup b log group
+    acted_turn acts is = record {
+      turn = Steps index step done (packets_sent log done);
+      is = is;
+      follows = carrier_turns_follow.step b log index step done
+          (step_follows done (packets_sent log done) is (acted_says (is_choice step) acts)) (step_of_scenario_has_names s.settings true step valid);
+    }
+
+  module _ (index : ℕ) (group : List Record) (within : sent_count (log ++ group) ≤ s.frames) where
+    losing_turn : (place : ℕ) (line : Option PacketLine) → IsStep s.settings true (Lose place) → losing_group index place line ≡ group
+        → IsTurnGroup b log group
+    unfolding is_choice
+    losing_turn place None valid is = nothing_added index (Lose place) valid group within [] is (inl refl)
+    losing_turn place (Some line) valid is = record {
+      turn = Steps index (Lose place) [] _;
+      is = is;
+      follows = carrier_turns_follow.lost b log index place line.number
+          (step_follows index (Lose place) valid group within [] _ is (inl refl));
+    }
+
+    repeating_turn : (place : ℕ) (line : Option PacketLine) → IsStep s.settings true (Repeat place)
+        → repeating_group log index place line ≡ group → IsTurnGroup b log group
+    unfolding is_choice
+    repeating_turn place None valid is = nothing_added index (Repeat place) valid group within [] is (inl refl)
+    repeating_turn place (Some line) valid is = record {
+      turn = Steps index (Repeat place) [] _;
+      is = is;
+      follows = carrier_turns_follow.repeated b log index place _
+          (step_follows index (Repeat place) valid group within [] _ is (inl refl));
+    }
+
+    choice_turn : (step : Step) → IsStep s.settings true step → is_choice step ≡ true → choice_group log index step ≡ group
+        → IsTurnGroup b log group
+    unfolding choice_group
+    choice_turn (Lose place) valid choice is = losing_turn place (slice_get (lines_under_way log) place) valid is
+    choice_turn (Repeat place) valid choice is = repeating_turn place (slice_get (lines_under_way log) place) valid is
+    choice_turn step valid choice is =
+        nothing_added index step valid group within [] is (choice_says index step valid group within (is_choice step) choice)
+
+    accepted_turn : (step : Step) (choice : Bool) → IsStep s.settings true step → is_choice step ≡ choice
+        → accepted_group choice s.settings log index step ≡ group → IsTurnGroup b log group
+    accepted_turn step true valid choice is = choice_turn step valid choice is
+    accepted_turn step false valid choice is = acted_turn index step valid group within choice is
+
+    begun_turn : (step : Step) (refusal : Option Refusal) → IsStep s.settings true step → first_refusal log step ≡ refusal
+        → group_unless s.settings log index step refusal ≡ group → IsTurnGroup b log group
+    begun_turn step (Some refusal) valid refused is =
+        nothing_added index step valid group within (Refused index refusal ∷ []) is
+        (refused_says index step valid group within (is_choice step) refusal refl refused)
+    begun_turn step None valid refused is = accepted_turn step (is_choice step) valid refl is
+
+  -- ---- what comes next
+
+  pub turn_of_group : (group : List Record) → All (IsStep s.settings true) s.steps → CarriedComesNext s log group
+      → sent_count (log ++ group) ≤ s.frames → IsTurnGroup b log group
+  turn_of_group group valid comes within =
+      elim (carried_coming s log group comes) [
+        | inl arrives ↦
+            let line = arrives.line in
+            arrival_turn line line.ack (has_number (outstanding log) line.frame) group refl arrives.is within
+        | inr (inl ticks) ↦ record {
+          turn = Ticks _;
+          is = ticks.is;
+          follows = carrier_turns_follow.ticks b log (awaiting log);
+        }
+        | inr (inr begins) ↦
+            let step = begins.step in
+            begun_turn (begun_count log + 1) group within step (first_refusal log step)
+            (next_is_step (IsStep s.settings true) s.steps (begun_count log) step valid begins.next) refl begins.is
+      ]
