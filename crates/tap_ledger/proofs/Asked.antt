@@ -26,14 +26,14 @@ numbers_length [] = refl
 numbers_length (f ∷ fs) = ap suc (numbers_length fs)
 
 -- as many frames are kept as are outstanding
-pub count_is : (log : List Record) (frames : OutstandingValue) → AreFlights log frames → length frames.frames ≡ length (outstanding log)
-count_is log frames are = sym (numbers_length frames.frames) ∙ ap (λ l. length l) are.numbers
+pub count_is : (log whole : List Record) (frames : OutstandingValue) → AreFlights log whole frames → length frames.frames ≡ length (outstanding log)
+count_is log whole frames are = sym (numbers_length frames.frames) ∙ ap (λ l. length l) are.numbers
 
 -- and they are all that a delivery may choose from
-pub flight_count_is : (settings : SettingsValue) (log : List Record) (frames : OutstandingValue) → IsKeepable settings log
-    → AreFlights log frames → length frames.frames ≡ flight_count log
-flight_count_is settings log frames is are =
-    count_is log frames are
+pub flight_count_is : (settings : SettingsValue) (log whole : List Record) (frames : OutstandingValue) → IsKeepable settings log
+    → AreFlights log whole frames → length frames.frames ≡ flight_count log
+flight_count_is settings log whole frames is are =
+    count_is log whole frames are
     ∙ sym (ap (λ b. if b then length (under_way log) else length (outstanding log)) is.uncarried)
 
 -- there is no frame exactly if there is no number
@@ -42,20 +42,20 @@ none_left [] = refl
 none_left (f ∷ fs) = ne_eqb (length (f ∷ fs)) 0 (λ same. absurd (omega (arith, same)))
 
 -- no frame is kept exactly if none is outstanding
-pub still_is : (log : List Record) (frames : OutstandingValue) → AreFlights log frames → (length frames.frames == 0) ≡ is_still log
-still_is log frames are = none_left frames.frames ∙ ap is_none are.numbers
+pub still_is : (log whole : List Record) (frames : OutstandingValue) → AreFlights log whole frames → (length frames.frames == 0) ≡ is_still log
+still_is log whole frames are = none_left frames.frames ∙ ap is_none are.numbers
 
 -- who is departing, given whether no frame is outstanding
-pub departing_by : (log : List Record) (frames : OutstandingValue) (leaver : Option (List ℕ)) (none : Bool) → AreFlights log frames
+pub departing_by : (log whole : List Record) (frames : OutstandingValue) (leaver : Option (List ℕ)) (none : Bool) → AreFlights log whole frames
     → Leaves log leaver → none ≡ (length frames.frames == 0) → (if none then None else leaver) ≡ departing_of log
-departing_by log frames leaver none are leaves is =
-    ap (λ b. if b then None else leaver) (is ∙ still_is log frames are) ∙ departing_is log leaver leaves
+departing_by log whole frames leaver none are leaves is =
+    ap (λ b. if b then None else leaver) (is ∙ still_is log whole frames are) ∙ departing_is log leaver leaves
 
 -- no frame is kept exactly if the log is at rest
-pub rest_is : (settings : SettingsValue) (log : List Record) (frames : OutstandingValue) → IsKeepable settings log
-    → AreFlights log frames → (length frames.frames == 0) ≡ is_rest log
-rest_is settings log frames is are =
-    still_is log frames are ∙ and_yes (is_still log)
+pub rest_is : (settings : SettingsValue) (log whole : List Record) (frames : OutstandingValue) → IsKeepable settings log
+    → AreFlights log whole frames → (length frames.frames == 0) ≡ is_rest log
+rest_is settings log whole frames is are =
+    still_is log whole frames are ∙ and_yes (is_still log)
     ∙ sym (ap (λ b. is_still log && (not b || (is_none (under_way log) && is_none (awaiting log)))) is.uncarried)
 
 -- the bytes that the record of a frame sends
@@ -63,23 +63,23 @@ abbrev pub record_bytes : List Record → Flight → Option (List ℕ)
 record_bytes log f = option_and_then sent_payload (slice_get log f.record_place)
 
 -- the record of a frame that is kept sends the bytes of its number
-flight_bytes : (log : List Record) (f : Flight) → IsFlight log f → record_bytes log f ≡ bytes_of log f.number
+flight_bytes : (log whole : List Record) (f : Flight) → IsFlight log whole f → record_bytes whole f ≡ bytes_of log f.number
 unfolding sent_payload
-flight_bytes log f is = ap (option_and_then sent_payload) is.there ∙ sym is.are
+flight_bytes log whole f is = ap (option_and_then sent_payload) is.there ∙ sym is.are
 
 -- so the records give the bytes of the frame at each place
-bytes_from : (log : List Record) (frames : List Flight) (place : ℕ) → All (IsFlight log) frames
-    → option_and_then (record_bytes log) (slice_get frames place)
+bytes_from : (log whole : List Record) (frames : List Flight) (place : ℕ) → All (IsFlight log whole) frames
+    → option_and_then (record_bytes whole) (slice_get frames place)
     ≡ option_and_then (bytes_of log) (slice_get (flight_numbers frames) place)
-bytes_from log [] place are = refl
-bytes_from log (f ∷ fs) zero are = flight_bytes log f (All-head (IsFlight log) f fs are)
-bytes_from log (f ∷ fs) (suc place) are = bytes_from log fs place (All-tail (IsFlight log) f fs are)
+bytes_from log whole [] place are = refl
+bytes_from log whole (f ∷ fs) zero are = flight_bytes log whole f (All-head (IsFlight log whole) f fs are)
+bytes_from log whole (f ∷ fs) (suc place) are = bytes_from log whole fs place (All-tail (IsFlight log whole) f fs are)
 
 -- the bytes of the outstanding frame at a place, by its record
-pub bytes_is : (log : List Record) (frames : OutstandingValue) (place : ℕ) → AreFlights log frames
-    → option_and_then (record_bytes log) (slice_get frames.frames place) ≡ bytes_at log place
-bytes_is log frames place are =
-    bytes_from log frames.frames place are.each
+pub bytes_is : (log whole : List Record) (frames : OutstandingValue) (place : ℕ) → AreFlights log whole frames
+    → option_and_then (record_bytes whole) (slice_get frames.frames place) ≡ bytes_at log place
+bytes_is log whole frames place are =
+    bytes_from log whole frames.frames place are.each
     ∙ ap (λ l. option_and_then (bytes_of log) (slice_get l place)) are.numbers
 
 -- ---- places
@@ -96,9 +96,9 @@ abbrev place_within : ℕ → ℕ → Option ℕ
 place_within at size = cond {A = Option ℕ} (nat_lt at size) (Some at) None
 
 -- the place of a number among the outstanding ones, by the frames
-pub place_is : (log : List Record) (frames : OutstandingValue) (n : ℕ) → AreFlights log frames
+pub place_is : (log whole : List Record) (frames : OutstandingValue) (n : ℕ) → AreFlights log whole frames
     → place_of_number frames.frames n ≡ position (nat_eq n) (outstanding log)
-place_is log frames n are =
+place_is log whole frames n are =
     ap (λ at. place_within at (length frames.frames)) (prefix_numbers n frames.frames)
     ∙ ap (place_within (prefix_len (λ k. not (nat_eq n k)) (flight_numbers frames.frames))) (sym (numbers_length frames.frames))
     ∙ ap (position (nat_eq n)) are.numbers
@@ -106,18 +106,18 @@ place_is log frames n are =
 -- ---- frames
 
 -- the record of a frame at a place of those that are kept is there
-pub flight_there : (log : List Record) (frames : List Flight) (place : ℕ) (f : Flight) → All (IsFlight log) frames
-    → Some f ≡ slice_get frames place → IsFlight log f
-flight_there log [] place f are is = absurd (cc)
-flight_there log (g ∷ gs) zero f are is =
+pub flight_there : (log whole : List Record) (frames : List Flight) (place : ℕ) (f : Flight) → All (IsFlight log whole) frames
+    → Some f ≡ slice_get frames place → IsFlight log whole f
+flight_there log whole [] place f are is = absurd (cc)
+flight_there log whole (g ∷ gs) zero f are is =
     let same : g ≡ f = cc in
-    subst (IsFlight log) same (All-head (IsFlight log) g gs are)
-flight_there log (g ∷ gs) (suc place) f are is = flight_there log gs place f (All-tail (IsFlight log) g gs are) is
+    subst (IsFlight log whole) same (All-head (IsFlight log whole) g gs are)
+flight_there log whole (g ∷ gs) (suc place) f are is = flight_there log whole gs place f (All-tail (IsFlight log whole) g gs are) is
 
 -- it sends these bytes
-pub flight_sends : (log : List Record) (f : Flight) (is : IsFlight log f) → record_bytes log f ≡ Some is.bytes
+pub flight_sends : (log whole : List Record) (f : Flight) (is : IsFlight log whole f) → record_bytes whole f ≡ Some is.bytes
 unfolding sent_payload
-flight_sends log f is = ap (option_and_then sent_payload) is.there
+flight_sends log whole f is = ap (option_and_then sent_payload) is.there
 
 -- the number of a frame that is given, if its bytes are
 pub frame_number : (result : Option OutstandingFrame) (number : ℕ) (bytes : List ℕ) → IfSome result (λ f. f.number ≡ number)

@@ -124,13 +124,13 @@ numbers_with (g ∷ gs) f = ap (λ l. g.number ∷ l) (numbers_with gs f)
 -- ---- the records of frames
 
 -- what stands at a place stays there when more comes after
-get_more : {X : Type 0} (xs ys : List X) (i : ℕ) (x : X) → slice_get xs i ≡ Some x → slice_get (xs ++ ys) i ≡ Some x
+pub get_more : {X : Type 0} (xs ys : List X) (i : ℕ) (x : X) → slice_get xs i ≡ Some x → slice_get (xs ++ ys) i ≡ Some x
 get_more [] ys i x is = absurd (cc)
 get_more (first ∷ xs) ys zero x is = is
 get_more (first ∷ xs) ys (suc i) x is = get_more xs ys i x is
 
 -- what comes last stands at the place of the length before
-get_last : {X : Type 0} (xs : List X) (x : X) → slice_get (xs ++ x ∷ []) (length xs) ≡ Some x
+pub get_last : {X : Type 0} (xs : List X) (x : X) → slice_get (xs ++ x ∷ []) (length xs) ≡ Some x
 get_last [] x = refl
 get_last (first ∷ xs) x = get_last xs x
 
@@ -160,17 +160,18 @@ bytes_none log numbered =
     ap (λ l. slice_get l 0) (none_sent n log (subst Below (sym numbered.sent) (range_below n)))
 
 -- the record of a frame stays where it is, and the frame keeps its bytes
-flight_stays : (log : List Record) (item : Record) (f : Flight) → IsFlight log f → IsFlight (log ++ item ∷ []) f
-flight_stays log item f is = record {
+flight_stays : (log whole : List Record) (item : Record) (f : Flight) → IsFlight log whole f
+    → IsFlight (log ++ item ∷ []) (whole ++ item ∷ []) f
+flight_stays log whole item f is = record {
   bytes = is.bytes;
-  there = get_more log (item ∷ []) f.record_place (Sent f.number is.bytes) is.there;
+  there = get_more whole (item ∷ []) f.record_place (Sent f.number is.bytes) is.there;
   are = bytes_of-push log item f.number ∙ ap (λ o. first_of_both o (sent_bytes f.number item)) is.are;
 }
 
 -- so it is with each of them
-flights_stay : (log : List Record) (item : Record) (frames : List Flight) → All (IsFlight log) frames
-    → All (IsFlight (log ++ item ∷ [])) frames
-flights_stay log item frames are k d within = flight_stays log item (get_or frames k d) (are k d within)
+flights_stay : (log whole : List Record) (item : Record) (frames : List Flight) → All (IsFlight log whole) frames
+    → All (IsFlight (log ++ item ∷ []) (whole ++ item ∷ [])) frames
+flights_stay log whole item frames are k d within = flight_stays log whole item (get_or frames k d) (are k d within)
 
 -- a frame that numbers on has the number of the next one
 next_number : (log : List Record) (n : ℕ) (bytes : List ℕ) → NumbersOn log (Sent n bytes ∷ []) → n ≡ sent_count log
@@ -187,11 +188,11 @@ unfolding sent_bytes
 sent_itself n bytes = ap (λ b. if b then Some bytes else None) (eq-eqb n n refl)
 
 -- the record of a new frame stands at the end
-new_flight : (log : List Record) (n : ℕ) (bytes : List ℕ) → IsNumbered log → n ≡ sent_count log
-    → IsFlight (log ++ Sent n bytes ∷ []) (frame_with n (length log))
-new_flight log n bytes numbered is = record {
+new_flight : (log whole : List Record) (n : ℕ) (bytes : List ℕ) → IsNumbered log → n ≡ sent_count log
+    → IsFlight (log ++ Sent n bytes ∷ []) (whole ++ Sent n bytes ∷ []) (frame_with n (length whole))
+new_flight log whole n bytes numbered is = record {
   bytes = bytes;
-  there = get_last log (Sent n bytes);
+  there = get_last whole (Sent n bytes);
   are = bytes_of-push log (Sent n bytes) n
       ∙ ap (λ o. first_of_both o (sent_bytes n (Sent n bytes))) (ap (bytes_of log) is ∙ bytes_none log numbered)
       ∙ sent_itself n bytes;
@@ -200,22 +201,22 @@ new_flight log n bytes numbered is = record {
 -- ---- one more record
 
 -- one more frame that is sent comes last
-sent_push : (log : List Record) (frames : OutstandingValue) (n : ℕ) (bytes : List ℕ) → IsNumbered log → NumbersOn log (Sent n bytes ∷ [])
-    → AreFlights log frames → AreFlights (log ++ Sent n bytes ∷ []) (followed frames (length log) (Sent n bytes))
+sent_push : (log whole : List Record) (frames : OutstandingValue) (n : ℕ) (bytes : List ℕ) → IsNumbered log → NumbersOn log (Sent n bytes ∷ [])
+    → AreFlights log whole frames → AreFlights (log ++ Sent n bytes ∷ []) (whole ++ Sent n bytes ∷ []) (followed frames (length whole) (Sent n bytes))
 unfolding followed sent_number taken_number
-sent_push log frames n bytes numbered on are =
+sent_push log whole frames n bytes numbered on are =
     let item = Sent n bytes in
     let next : n ≡ sent_count log = next_number log n bytes on in
     let number : n ≡ frames.sent = next ∙ sym are.sent in
-    let New : ℕ → Type 0 = λ m. IsFlight (log ++ item ∷ []) (frame_with m (length log)) in
+    let New : ℕ → Type 0 = λ m. IsFlight (log ++ item ∷ []) (whole ++ item ∷ []) (frame_with m (length whole)) in
     record {
       sent = ap (λ m. m + 1) are.sent ∙ sym (one_more_record_holds.sent log item);
-      numbers = numbers_with frames.frames (frame_with frames.sent (length log))
+      numbers = numbers_with frames.frames (frame_with frames.sent (length whole))
           ∙ ap (λ l. l ++ frames.sent ∷ []) (are.numbers ∙ sym (less_by-none nat_eq (outstanding log)))
           ∙ ap (λ m. numbers_less (outstanding log) [] ++ m ∷ []) (sym number)
           ∙ sym (outstanding-group log (item ∷ []) numbered on);
-      each = All-push (IsFlight (log ++ item ∷ [])) frames.frames (frame_with frames.sent (length log))
-          (flights_stay log item frames.frames are.each) (subst New number (new_flight log n bytes numbered next));
+      each = All-push (IsFlight (log ++ item ∷ []) (whole ++ item ∷ [])) frames.frames (frame_with frames.sent (length whole))
+          (flights_stay log whole item frames.frames are.each) (subst New number (new_flight log whole n bytes numbered next));
     }
 
 -- which frames are left when one is taken, or none
@@ -232,11 +233,11 @@ taken_sent frames None = refl
 taken_sent frames (Some at) = refl
 
 -- one frame that is taken goes
-taken_push : (log : List Record) (frames : OutstandingValue) (n : ℕ) → IsNumbered log → NumbersOn log (Taken n ∷ [])
+taken_push : (log whole : List Record) (frames : OutstandingValue) (n : ℕ) → IsNumbered log → NumbersOn log (Taken n ∷ [])
     → AllPairs (λ a b. a.number < b.number) frames.frames
-    → AreFlights log frames → AreFlights (log ++ Taken n ∷ []) (followed frames (length log) (Taken n))
+    → AreFlights log whole frames → AreFlights (log ++ Taken n ∷ []) (whole ++ Taken n ∷ []) (followed frames (length whole) (Taken n))
 unfolding followed sent_number taken_number
-taken_push log frames n numbered on ascending are =
+taken_push log whole frames n numbered on ascending are =
     let item = Taken n in
     let new = log ++ item ∷ [] in
     let place = place_of_number frames.frames n in
@@ -249,14 +250,14 @@ taken_push log frames n numbered on ascending are =
           ∙ ap (λ l. numbers_less l (n ∷ [])) are.numbers
           ∙ sym (append-nil (numbers_less (outstanding log) (n ∷ [])))
           ∙ sym (outstanding-group log (item ∷ []) numbered on);
-      each = subst (All (IsFlight new)) (sym is) (All-filter (λ f. not (f.number == n)) (IsFlight new) frames.frames
-          (flights_stay log item frames.frames are.each));
+      each = subst (All (IsFlight new (whole ++ item ∷ []))) (sym is) (All-filter (λ f. not (f.number == n)) (IsFlight new (whole ++ item ∷ [])) frames.frames
+          (flights_stay log whole item frames.frames are.each));
     }
 
 -- of any other record the frames stay
-other_push : (log : List Record) (frames : OutstandingValue) (item : Record) → sent_number item ≡ None → taken_number item ≡ None
-    → IsNumbered log → NumbersOn log (item ∷ []) → AreFlights log frames → AreFlights (log ++ item ∷ []) frames
-other_push log frames item no_sent no_taken numbered on are =
+other_push : (log whole : List Record) (frames : OutstandingValue) (item : Record) → sent_number item ≡ None → taken_number item ≡ None
+    → IsNumbered log → NumbersOn log (item ∷ []) → AreFlights log whole frames → AreFlights (log ++ item ∷ []) (whole ++ item ∷ []) frames
+other_push log whole frames item no_sent no_taken numbered on are =
     let Numbers : Option ℕ → Option ℕ → List ℕ = λ t s. numbers_less (outstanding log) (at_most_one t) ++ at_most_one s in
     record {
       sent = are.sent
@@ -266,14 +267,27 @@ other_push log frames item no_sent no_taken numbered on are =
           ∙ ap (Numbers None) no_sent
           ∙ append-nil (numbers_less (outstanding log) [])
           ∙ less_by-none nat_eq (outstanding log));
-      each = flights_stay log item frames.frames are.each;
+      each = flights_stay log whole item frames.frames are.each;
     }
 
 -- which frames are outstanding after one more record
-pub flights_push : (log : List Record) (frames : OutstandingValue) (item : Record) → IsNumbered log → NumbersOn log (item ∷ [])
+pub flights_push : (log whole : List Record) (frames : OutstandingValue) (item : Record) → IsNumbered log → NumbersOn log (item ∷ [])
     → AllPairs (λ a b. a.number < b.number) frames.frames
-    → AreFlights log frames → AreFlights (log ++ item ∷ []) (followed frames (length log) item)
+    → AreFlights log whole frames → AreFlights (log ++ item ∷ []) (whole ++ item ∷ []) (followed frames (length whole) item)
 unfolding followed sent_number taken_number
-flights_push log frames (Sent n bytes) numbered on ascending are = sent_push log frames n bytes numbered on are
-flights_push log frames (Taken n) numbered on ascending are = taken_push log frames n numbered on ascending are
-flights_push log frames item numbered on ascending are = other_push log frames item refl refl numbered on are
+flights_push log whole frames (Sent n bytes) numbered on ascending are = sent_push log whole frames n bytes numbered on are
+flights_push log whole frames (Taken n) numbered on ascending are = taken_push log whole frames n numbered on ascending are
+flights_push log whole frames item numbered on ascending are = other_push log whole frames item refl refl numbered on are
+
+-- a remark leaves them as they are
+pub flights_remark : (log whole : List Record) (frames : OutstandingValue) (item : Record) → AreFlights log whole frames
+    → AreFlights log (whole ++ item ∷ []) frames
+flights_remark log whole frames item are = record {
+  sent = are.sent;
+  numbers = are.numbers;
+  each = λ k d within. let is = are.each k d within in record {
+    bytes = is.bytes;
+    there = get_more whole (item ∷ []) (get_or frames.frames k d).record_place (Sent (get_or frames.frames k d).number is.bytes) is.there;
+    are = is.are;
+  };
+}

@@ -1,3 +1,4 @@
+pub mod Woven
 mod Conditions
 mod Less
 pub mod Accepted

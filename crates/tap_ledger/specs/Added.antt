@@ -1,11 +1,11 @@
 -- What may be added to the log of a ledger.
 use Rattle.std.specs.Prelude.{◌≡◌, ℕ, ◌≤◌, Bool, true, false, List, ◌++◌, All}
 use Rattle.tap_log.specs.declared.record.Record.{Record}
-use Rattle.tap_log.specs.declared.record.Record.TheVariants.{Begin, Carrier, Packet, Arrived, Ticked, Lost}
+use Rattle.tap_log.specs.declared.record.Record.TheVariants.{Begin, Carrier, Packet, Arrived, Ticked, Lost, RootsOf}
 use Rattle.tap_log.specs.Counts.{sent_count}
 use Rattle.tap_history.specs.GroupLaws.{NumbersOn}
 
--- A record that may stand after the beginning of a log that isn't carried: it is no beginning, and is of no packet.
+-- A record that may stand after the beginning of a log that isn't carried: it is no beginning, and no carrier tells it alone.
 unfoldable pub is_plain : Record → Bool
 is_plain (Begin settings frames members) = false
 is_plain Carrier = false
@@ -13,6 +13,7 @@ is_plain (Packet number frame ack) = false
 is_plain (Arrived packet) = false
 is_plain Ticked = false
 is_plain (Lost packet) = false
+is_plain (RootsOf object asker roots) = false
 is_plain other = true
 
 -- how many frames a ledger may have seen sent

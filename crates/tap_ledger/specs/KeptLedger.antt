@@ -1,5 +1,5 @@
 -- What a ledger keeps beside its log is what the log says.
-use Rattle.std.specs.Prelude.{◌≡◌, ℕ, ◌≤◌, Bool, false, if◌then◌else◌, List, [], ◌∷◌, ◌++◌, length, map, slice_get, All, Option, None, Some, ◌⊎◌}
+use Rattle.std.specs.Prelude.{◌≡◌, ℕ, ◌<◌, ◌≤◌, Bool, false, if◌then◌else◌, List, [], ◌∷◌, ◌++◌, length, map, slice_get, All, Option, None, Some, ◌⊎◌}
 use Rattle.std.specs.List.{filter_map, last_or}
 use Rattle.tap_name.specs.Settings.{SettingsValue}
 use Rattle.tap_outstanding.specs.declared.outstanding.Flight.{Flight}
@@ -10,6 +10,7 @@ use Rattle.tap_log.specs.declared.record.Record.TheVariants.{Sent}
 use Rattle.tap_log.specs.Counts.{cast_count, sent_count, ticket_count}
 use Rattle.tap_log.specs.Frames.{bytes_of}
 use Rattle.tap_log.specs.Kinds.{is_carried, packet_number, step_of}
+use Rattle.tap_log.specs.Log.{last_of}
 use Rattle.tap_log.specs.MoreRecords.{first_of_both}
 use Rattle.tap_history.specs.Core.{accepted_in}
 use Rattle.tap_history.specs.Departing.{departing_of}
@@ -23,10 +24,10 @@ use Rattle.tap_ledger.specs.Pairs.{stays_published}
 
 -- ---- frames
 
--- the record of the frame stands at its place, and has the bytes of this number
-pub record IsFlight (log : List Record) (flight : Flight) : Type 0 where
+-- the record of the frame stands at its place of the whole log, and has the bytes of this number
+pub record IsFlight (log whole : List Record) (flight : Flight) : Type 0 where
   pub bytes : List ℕ
-  pub there : slice_get log flight.record_place ≡ Some (Sent flight.number bytes)
+  pub there : slice_get whole flight.record_place ≡ Some (Sent flight.number bytes)
   pub are : bytes_of log flight.number ≡ Some bytes
 
 -- the numbers of these frames
@@ -34,10 +35,10 @@ abbrev pub flight_numbers : List Flight → List ℕ
 flight_numbers flights = map (λ flight. flight.number) flights
 
 -- these are the frames that are outstanding, and so many were sent
-pub record AreFlights (log : List Record) (frames : OutstandingValue) : Type 0 where
+pub record AreFlights (log whole : List Record) (frames : OutstandingValue) : Type 0 where
   pub sent : frames.sent ≡ sent_count log
   pub numbers : flight_numbers frames.frames ≡ outstanding log
-  pub each : All (IsFlight log) frames.frames
+  pub each : All (IsFlight log whole) frames.frames
 
 -- ---- departures
 
@@ -64,6 +65,13 @@ Leaves log leaver = HasNoStep log leaver ⊎ LeavesInGroup log leaver
 abbrev pub leaver_next : Bool → Option (List ℕ) → Option (List ℕ) → Option (List ℕ) → Option (List ℕ)
 leaver_next begins departing departs leaver = (if begins then departing else first_of_both departs leaver)
 
+-- ---- the last record
+
+-- at this place of the whole log stands the last one of its plain records
+pub record IsLast (log whole : List Record) (place : ℕ) : Type 0 where
+  pub within : place < length whole
+  pub there : slice_get whole place ≡ last_of log
+
 -- ---- all of it
 
 -- The log is not carried and has its beginning; frames and tickets are numbered, and no packet was made.
@@ -74,15 +82,17 @@ pub record IsKeepable (settings : SettingsValue) (log : List Record) : Type 0 wh
   pub numbered : IsNumbered log
   pub no_packets : filter_map packet_number log ≡ []
 
-pub record Kept (log : List Record) (settings : SettingsValue) (frames : OutstandingValue) (lists : NameLists)
-    (keys : List (List ℕ × List ℕ)) (tickets casts : ℕ) (leaver : Option (List ℕ)) : Type 0 where
+-- What is kept is what the plain records of the whole log say.
+pub record Kept (log whole : List Record) (settings : SettingsValue) (frames : OutstandingValue) (lists : NameLists)
+    (keys : List (List ℕ × List ℕ)) (tickets casts : ℕ) (leaver : Option (List ℕ)) (last : ℕ) : Type 0 where
   pub begins : IsKeepable settings log
-  pub flights : AreFlights log frames
+  pub flights : AreFlights log whole frames
   pub names : lists ≡ lists_of log
   pub pairs : (q : Pair) → stays_published keys lists.departed q ≡ has_pair (published_of log) q
   pub asked : tickets ≡ ticket_count log
   pub begun : casts ≡ cast_count log
   pub leaves : Leaves log leaver
+  pub ends : IsLast log whole last
 
 -- there is room for so many more records in all that is kept
 pub record LedgerHasRoom (room log frames roll pairs : ℕ) : Type 0 where

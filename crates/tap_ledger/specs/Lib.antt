@@ -1,3 +1,4 @@
+pub mod Woven
 pub mod Ledger
 pub mod Added
 pub mod Single

@@ -14,7 +14,7 @@ use tap_outstanding::{Flight, Outstanding};
 pub struct OutstandingFrame<'a> {
     /// Its number: how many frames were sent before it.
     pub number: u32,
-    /// The place, from 0, of the record that sends it among those of the log.
+    /// The place, from 0, of the record that sends it among those of the whole log.
     pub record_place: usize,
     /// Its bytes.
     pub bytes: &'a [u8],

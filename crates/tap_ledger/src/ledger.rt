@@ -4,6 +4,7 @@ ghost use Rattle.tap_log.specs.declared.record.Record.TheVariants.{Begin, Sent};
 ghost use Rattle.tap_log.specs.Counts.{cast_count, resent_count, sent_count, ticket_count};
 ghost use Rattle.tap_log.specs.Kinds.{is_carried};
 ghost use Rattle.tap_log.specs.Log.{last_of};
+ghost use Rattle.tap_log.specs.Reduced.{is_added, reduced};
 ghost use Rattle.tap_history.specs.Core.{abandoned_of, core_of, present_of};
 ghost use Rattle.tap_history.specs.Departing.{departing_of};
 ghost use Rattle.tap_history.specs.Flights.{bytes_at, flight_count};
@@ -16,6 +17,7 @@ ghost use Rattle.tap_ledger.specs.Added.{CanAdd};
 ghost use Rattle.tap_ledger.specs.KeptLedger.{leaver_next};
 ghost use Rattle.tap_ledger.specs.NameLists.{accepted_after};
 ghost use Rattle.tap_ledger.specs.Quiet.{is_moving_step, is_quiet, is_request};
+ghost use Rattle.tap_ledger.specs.Woven.{remark_after, woven};
 
 use crate::counts::{counted_cast, counted_ticket};
 use crate::flights::{OutstandingFrame, follow, frame_of, payload};
@@ -34,9 +36,11 @@ use tap_wire::Bytes;
 // For how many records room is made at once, at least.
 const MADE_AT_ONCE: usize = 256;
 
-/// The log of a run that isn't carried, together with what it says of the run, kept at hand: who takes part, what is published,
-/// which frames are outstanding, and how much there was of each. Contracts see the records of the log, and for how many more there
-/// is room.
+/// The log of a run, together with what it says of the run, kept at hand: who takes part, what is published, which frames are
+/// outstanding, and how much there was of each.
+///
+/// A carrier adds remarks: records that it alone tells. Contracts see the plain records, which are all others and make the log of a run
+/// that isn't carried; the remarks, each with how many plain records stand before it; and for how many more records there is room.
 ///
 /// A look-up of a frame takes at most logarithmic time. A pair and a name are found by their hash, and a count stands ready. All of it
 /// holds after each record that is added.
@@ -52,6 +56,8 @@ pub struct Ledger {
     tickets: usize,
     casts: usize,
     leaver: Option<Name>,
+    // Where the last plain record stands.
+    last: usize,
     room: usize,
     // For so many more records there is room in each part.
     made: usize,
@@ -61,13 +67,15 @@ impl Model for Ledger {
     ghost use Rattle.std.specs.Prelude.{◌≤◌};
     ghost use Rattle.tap_ledger.specs.KeptLedger.{Kept, LedgerHasRoom};
     ghost use Rattle.tap_ledger.specs.Ledger.{LedgerValue};
+    ghost use Rattle.tap_ledger.specs.Woven.{remarks_of};
+    ghost use Rattle.tap_log.specs.Reduced.{reduced};
 
     ghost Value = { LedgerValue };
 
-    ghost view = { λ l. record { records = l.log.records; spare = l.room } };
+    ghost view = { λ l. record { records = reduced l.log.records; added = remarks_of l.log.records; spare = l.room } };
 
     ghost invariant = { λ l. record {
-      kept : Kept l.log.records l.settings l.frames l.roll.lists l.pairs.keys l.tickets l.casts l.leaver;
+      kept : Kept (reduced l.log.records) l.log.records l.settings l.frames l.roll.lists l.pairs.keys l.tickets l.casts l.leaver l.last;
       within : l.room ≤ l.made;
       room : LedgerHasRoom l.made l.log.spare l.frames.room l.roll.room l.pairs.room;
     } };
@@ -84,7 +92,7 @@ impl Ledger {
         frames: u32,
         members: &List<Name>,
     ) -> Result<Ledger, NoMemory>
-        ensures { IfOk result (λ l. l ≡ record { records = Begin settings.now frames members.now ∷ []; spare = 0 }) }
+        ensures { IfOk result (λ l. l ≡ record { records = Begin settings.now frames members.now ∷ []; added = []; spare = 0 }) }
     {
         let roll = Roll::of(alloc, members.as_slice())?;
         let mut log = Log::new(alloc);
@@ -102,6 +110,7 @@ impl Ledger {
             tickets: 0,
             casts: 0,
             leaver: None,
+            last: 0,
             room: 0,
             made: 0,
         })
@@ -113,6 +122,7 @@ impl Ledger {
     #[inline(always)]
     pub fn reserve(&mut self, more: usize) -> Result<(), NoMemory>
         ensures records { self.new.records ≡ self.old.records }
+        ensures added { self.new.added ≡ self.old.added }
         ensures ok { OnOk result (self.new.spare ≡ max self.old.spare more) }
         ensures err { OnErr result (self.new ≡ self.old) }
     {
@@ -128,6 +138,7 @@ impl Ledger {
     fn make_room(&mut self, more: usize) -> Result<(), NoMemory>
         requires { self.old.spare ≤ more }
         ensures records { self.new.records ≡ self.old.records }
+        ensures added { self.new.added ≡ self.old.added }
         ensures ok { OnOk result (self.new.spare ≡ more) }
         ensures err { OnErr result (self.new ≡ self.old) }
     {
@@ -149,6 +160,7 @@ impl Ledger {
         requires room { 1 ≤ self.old.spare }
         requires can_add { CanAdd self.old.records (item ∷ []) }
         ensures records { self.new.records ≡ self.old.records ++ item ∷ [] }
+        ensures added { self.new.added ≡ self.old.added }
         ensures spare { self.new.spare + 1 ≡ self.old.spare }
     {
         if self.is_quiet(&item) {
@@ -175,13 +187,16 @@ impl Ledger {
         requires can_add { CanAdd self.old.records (item ∷ []) }
         requires request { is_request (last_of self.old.records) item ≡ true }
         ensures records { self.new.records ≡ self.old.records ++ item ∷ [] }
+        ensures added { self.new.added ≡ self.old.added }
         ensures spare { self.new.spare + 1 ≡ self.old.spare }
     {
         self.pairs.change(&item);
-        follow(&mut self.frames, &item, self.log.len());
+        let place = self.log.len();
+        follow(&mut self.frames, &item, place);
         self.tickets += counted_ticket(&item);
         self.casts += counted_cast(&item);
         self.log.push_reserved(item);
+        self.last = place;
         self.room -= 1;
         self.made -= 1;
     }
@@ -194,6 +209,7 @@ impl Ledger {
         requires room { 1 ≤ self.old.spare }
         requires can_add { CanAdd self.old.records (Sent (sent_count self.old.records) bytes ∷ []) }
         ensures records { self.new.records ≡ self.old.records ++ Sent (sent_count self.old.records) bytes ∷ [] }
+        ensures added { self.new.added ≡ self.old.added }
         ensures spare { self.new.spare + 1 ≡ self.old.spare }
     {
         if self.has_moving_step() {
@@ -201,8 +217,10 @@ impl Ledger {
         }
         // No effect at run time. The proof reads from this call that the outstanding numbers ascend.
         let _ = self.frames.len();
-        let number = self.frames.send_reserved(self.log.len());
+        let place = self.log.len();
+        let number = self.frames.send_reserved(place);
         self.log.push_reserved(Record::Sent { number, bytes });
+        self.last = place;
         self.room -= 1;
         self.made -= 1;
     }
@@ -213,18 +231,19 @@ impl Ledger {
         requires room { 1 ≤ self.old.spare }
         requires can_add { CanAdd self.old.records (Sent (sent_count self.old.records) bytes ∷ []) }
         ensures records { self.new.records ≡ self.old.records ++ Sent (sent_count self.old.records) bytes ∷ [] }
+        ensures added { self.new.added ≡ self.old.added }
         ensures spare { self.new.spare + 1 ≡ self.old.spare }
     {
         let number = self.sent();
         self.push_any(Record::Sent { number, bytes });
     }
 
-    // Whether the last record begins a step by which a node is to join or to depart.
+    // Whether the last plain record begins a step by which a node is to join or to depart.
     #[inline(always)]
     fn has_moving_step(&self) -> bool
         ensures { result ≡ is_moving_step (last_of self.now.records) }
     {
-        match self.log.as_slice().last() {
+        match self.log.as_slice().get(self.last) {
             Some(last) => moves_node(last),
             None => false,
         }
@@ -245,12 +264,15 @@ impl Ledger {
         requires can_add { CanAdd self.old.records (item ∷ []) }
         requires quiet { is_quiet (last_of self.old.records) item ≡ true }
         ensures records { self.new.records ≡ self.old.records ++ item ∷ [] }
+        ensures added { self.new.added ≡ self.old.added }
         ensures spare { self.new.spare + 1 ≡ self.old.spare }
     {
         let rest = self.frames.is_empty();
         settle_leaver(&mut self.leaver, begins_group(false, &item), rest);
-        follow(&mut self.frames, &item, self.log.len());
+        let place = self.log.len();
+        follow(&mut self.frames, &item, place);
         self.log.push_reserved(item);
+        self.last = place;
         self.room -= 1;
         self.made -= 1;
     }
@@ -260,6 +282,7 @@ impl Ledger {
         requires room { 1 ≤ self.old.spare }
         requires can_add { CanAdd self.old.records (item ∷ []) }
         ensures records { self.new.records ≡ self.old.records ++ item ∷ [] }
+        ensures added { self.new.added ≡ self.old.added }
         ensures spare { self.new.spare + 1 ≡ self.old.spare }
     {
         let accepted = self.accepted_by(&item);
@@ -267,27 +290,72 @@ impl Ledger {
         self.leaver = leaver_next(begins, self.departing(), departs(&accepted), self.leaver);
         self.pairs.change(&item);
         self.roll.change(&accepted, &item);
-        follow(&mut self.frames, &item, self.log.len());
+        let place = self.log.len();
+        follow(&mut self.frames, &item, place);
         self.tickets += counted_ticket(&item);
         self.casts += counted_cast(&item);
+        self.log.push_reserved(item);
+        self.last = place;
+        self.room -= 1;
+        self.made -= 1;
+    }
+
+    // The step of the last plain record, if this next one accepts it.
+    fn accepted_by(&self, item: &Record) -> Option<Step>
+        ensures { result ≡ accepted_after (last_of self.now.records) item.now }
+    {
+        let last = self.log.as_slice().get(self.last)?;
+        accepted_step(last, item)
+    }
+
+    /// For how many more records there is room.
+    ///
+    /// Rule: docs/DECISIONS.md, "The logs of a run".
+    pub fn spare(&self) -> usize
+        ensures { result ≡ self.now.spare }
+    {
+        self.room
+    }
+
+    /// Adds a remark: a record that only a carrier tells. The room for further records stays. A refused call changes nothing.
+    ///
+    /// Rule: docs/FORMATS.md, "Groups and moments".
+    pub fn remark(&mut self, item: Record) -> Result<(), NoMemory>
+        requires { is_added item ≡ true }
+        ensures records { self.new.records ≡ self.old.records }
+        ensures ok { OnOk result (self.new.added ≡ self.old.added ++ remark_after self.old.records item ∷ []) }
+        ensures spare { self.new.spare ≡ self.old.spare }
+        ensures err { OnErr result (self.new ≡ self.old) }
+    {
+        if self.made == usize::MAX {
+            return Err(NoMemory);
+        }
+        self.log.reserve(self.made + 1)?;
+        self.log.push_reserved(item);
+        Ok(())
+    }
+
+    /// Adds a remark for which there is room. It takes no memory.
+    ///
+    /// Rule: docs/DECISIONS.md, "The logs of a run".
+    pub fn remark_reserved(&mut self, item: Record)
+        requires room { 1 ≤ self.old.spare }
+        requires added { is_added item ≡ true }
+        ensures records { self.new.records ≡ self.old.records }
+        ensures added { self.new.added ≡ self.old.added ++ remark_after self.old.records item ∷ [] }
+        ensures spare { self.new.spare + 1 ≡ self.old.spare }
+    {
         self.log.push_reserved(item);
         self.room -= 1;
         self.made -= 1;
     }
 
-    // The step of the last record, if this next one accepts it.
-    fn accepted_by(&self, item: &Record) -> Option<Step>
-        ensures { result ≡ accepted_after (last_of self.now.records) item.now }
-    {
-        let last = self.log.as_slice().last()?;
-        accepted_step(last, item)
-    }
-
-    /// The log.
+    /// The whole log: the plain records, and each remark after as many of them as it says.
     ///
     /// Rule: docs/FORMATS.md, "Groups and moments".
     pub fn log(&self) -> &Log
-        ensures records { result.now.records ≡ self.now.records }
+        ensures records { result.now.records ≡ woven self.now.records self.now.added }
+        ensures reduced { reduced result.now.records ≡ self.now.records }
         ensures begun { 1 ≤ length self.now.records }
         ensures uncarried { is_carried self.now.records ≡ false }
         ensures numbered { IsNumbered self.now.records }
@@ -462,7 +530,7 @@ impl Ledger {
     pub fn flight_at(&self, place: u32) -> Option<OutstandingFrame<'_>>
         ensures number { option_map (λ f. f.number) result ≡ slice_get (outstanding self.now.records) place }
         ensures bytes { option_map (λ f. f.bytes.now) result ≡ bytes_at self.now.records place }
-        ensures at { IfSome result (λ f. slice_get self.now.records f.record_place ≡ Some (Sent f.number f.bytes.now)) }
+        ensures at { IfSome result (λ f. slice_get (woven self.now.records self.now.added) f.record_place ≡ Some (Sent f.number f.bytes.now)) }
     {
         let flight = self.frames.frame_at(place)?;
         frame_of(self.log.as_slice(), flight)
@@ -494,16 +562,16 @@ impl Ledger {
         self.frames.len()
     }
 
-    // How many packets ticks and repeats made: none, since the log isn't carried.
+    // How many packets ticks and repeats made: none, since plain records are of no packet.
     pub(crate) fn resent(&self) -> u32
         ensures { result ≡ resent_count self.now.records }
     {
-        // No record of the log is of a packet.
+        // No plain record is of a packet.
         let _ = &self.log;
         0
     }
 
-    // How many frames await their acknowledgement: all that were sent, since no packet was made.
+    // How many frames await their acknowledgement: all that were sent, since plain records are of no packet.
     pub(crate) fn awaiting(&self) -> u32
         ensures { result ≡ length (awaiting self.now.records) }
     {

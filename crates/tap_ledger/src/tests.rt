@@ -32,6 +32,7 @@ fn is_plain(item: &Record) -> bool
     match item {
         Record::Begin { .. } | Record::Carrier | Record::Packet { .. } => false,
         Record::Arrived { .. } | Record::Ticked | Record::Lost { .. } => false,
+        Record::RootsOf { .. } => false,
         _ => true,
     }
 }
@@ -215,4 +216,42 @@ fn publish(rt: &impl Abort, ledger: &mut Ledger) -> Result<(), Fail> {
 fn a_published_pair_is_kept(rt: HostRuntime) -> Result<(), Fail> {
     let mut ledger = begun(rt.alloc())?;
     publish(&rt, &mut ledger)
+}
+
+// Remarks stand in the whole log, where they were added. The last record, the frames and the room are as they were.
+#[tactic(auto, unfolding(tap_log::specs::Reduced::is_added))]
+fn remark(alloc: Global, rt: &impl Abort, ledger: &mut Ledger) -> Result<(), Fail> {
+    let packet = Record::Packet {
+        number: 0,
+        frame: 0,
+        ack: false,
+    };
+    add_step(rt, ledger, "join 10 via 00")?;
+    ledger.reserve(2)?;
+    assert_eq!(rt; ledger.remark(packet), Ok(()));
+    assert_eq!(rt; ledger.spare(), 2);
+    add_sent(alloc, rt, ledger, 0)?;
+    ledger.reserve(1)?;
+    ledger.remark_reserved(Record::Ticked);
+    assert_eq!(rt; ledger.spare(), 0);
+    see_remarks(rt, ledger)
+}
+
+// The join was accepted by the frame, though a remark stands before it; its record is the fourth one.
+fn see_remarks(rt: &impl Abort, ledger: &Ledger) -> Result<(), Fail> {
+    let name = name_of(&ledger.settings(), "10")?;
+    assert!(rt; ledger.is_present(&name));
+    assert_eq!(rt; ledger.log().len(), 5);
+    assert_eq!(rt; ledger.place_of(0), Some(0));
+    assert_eq!(rt; ledger.place_of(1), None);
+    let flight = ledger.flight_at(0).ok_or("a frame")?;
+    assert_eq!(rt; flight.record_place, 3);
+    assert_eq!(rt; flight.bytes.len(), 8);
+    Ok(())
+}
+
+#[test]
+fn remarks_stand_beside_the_plain_records(rt: HostRuntime) -> Result<(), Fail> {
+    let mut ledger = begun(rt.alloc())?;
+    remark(rt.alloc(), &rt, &mut ledger)
 }

@@ -1,8 +1,9 @@
-use Rattle.std.proofs.Common.{◌≡◌, ◌≤◌, ◌+◌, ◌∙◌, false, [], ◌∷◌, List, ap, sym, subst, arith}
+use Rattle.std.proofs.Common.{◌≡◌, ℕ, ◌≤◌, ◌+◌, ◌∙◌, false, [], ◌∷◌, ◌++◌, List, ap, sym, subst, arith}
 use Rattle.std.specs.Prelude.{option_and_then}
 use Rattle.tap_log.specs.declared.record.Record.{Record}
 use Rattle.tap_log.specs.Kinds.{asked_ticket, begins_group, begun_cast}
 use Rattle.tap_log.specs.Log.{last_of}
+use Rattle.tap_log.specs.Reduced.{reduced}
 use Rattle.tap_log.proofs.MoreRecords.{one_more_record_holds}
 use Rattle.tap_history.specs.Departing.{departing_of}
 use Rattle.tap_history.specs.StepAsks.{depart_name}
@@ -11,13 +12,14 @@ use Rattle.tap_ledger.specs.Flights.{followed}
 use Rattle.tap_ledger.specs.KeptLedger.{Kept, leaver_next}
 use Rattle.tap_ledger.specs.Ledger.{LedgerValue}
 use Rattle.tap_ledger.specs.NameLists.{accepted_after, lists_after}
-use Rattle.tap_ledger.proofs.Keeping.{kept_push}
+use Rattle.tap_ledger.proofs.Keeping.{added_stay, kept_push, kept_whole, records_more}
 use Rattle.tap_ledger.proofs.Uncarried.{at_most, casts_fit, tickets_fit}
+use Rattle.tap_ledger.proofs.Woven.{reduced_within}
 use Rattle.tap_ledger.proofs.ledger.Ledger.push_any.Goals as goal
 
 pub follow-requires-clause-few : goal.follow-requires-clause-few
 follow-requires-clause-few c =
-    let log = c.self.inside.log.records in
+    let log = reduced c.self.inside.log.records in
     let Can : LedgerValue → Type 0 = λ l. CanAdd l.records (c.args.item ∷ []) in
     let can = subst Can (sym c.self.view_is) c.requires.can_add in
     let within = can.within in
@@ -27,24 +29,27 @@ follow-requires-clause-few c =
 pub overflow_add-self : goal.overflow_add-self
 overflow_add-self c =
     let kept = c.self.invariant.kept in
-    let log = c.self.inside.log.records in
+    let whole = c.self.inside.log.records in
+    let log = reduced whole in
     let asked = kept.asked in
     let few = tickets_fit c.self.inside.settings log kept.begins.begins in
     let most = at_most (asked_ticket c.args.item) in
-    omega (arith, asked, few, most, c.counted_ticket.ensures, c.len.ensures)
+    omega (arith, asked, few, most, c.counted_ticket.ensures, c.len-place.ensures, reduced_within whole)
 
 pub overflow_add-self-2 : goal.overflow_add-self-2
 overflow_add-self-2 c =
     let kept = c.self.invariant.kept in
-    let log = c.self.inside.log.records in
+    let whole = c.self.inside.log.records in
+    let log = reduced whole in
     let begun = kept.begun in
     let few = casts_fit c.self.inside.settings log kept.begins.begins in
     let most = at_most (begun_cast c.args.item) in
-    omega (arith, begun, few, most, c.counted_cast.ensures, c.len.ensures)
+    omega (arith, begun, few, most, c.counted_cast.ensures, c.len-place.ensures, reduced_within whole)
 
 pub invariant_of-self : goal.invariant_of-self
 invariant_of-self c =
-    let log = c.self.inside.log.records in
+    let whole = c.self.inside.log.records in
+    let log = reduced whole in
     let lists = c.self.inside.roll.lists in
     let keys = c.self.inside.pairs.keys in
     let leaver = c.self.inside.leaver in
@@ -61,17 +66,18 @@ invariant_of-self c =
     let departing : c.departing.result ≡ departing_of log = c.departing.ensures
     ∙ ap (λ (l : LedgerValue). departing_of l.records) (sym c.self.view_is) in
     let leaves : c.departs.result ≡ departs = c.departs.ensures ∙ ap (option_and_then depart_name) accepted in
-    let Keeps : List Record → Type 0 = λ l. Kept l c.self.inside.settings c.follow.new.frames c.change-2.new.self.lists
+    let Keeps : List Record → List Record → ℕ → Type 0 = λ l w place. Kept l w c.self.inside.settings c.follow.new.frames c.change-2.new.self.lists
     c.change.new.self.keys (c.self.inside.tickets + c.counted_ticket.result) (c.self.inside.casts + c.counted_cast.result)
-    c.leaver_next-self-inside.result in
+    c.leaver_next-self-inside.result place in
     let spare : c.self.inside.room ≡ c.args.self.now.spare = ap (λ (l : LedgerValue). l.spare) c.self.view_is in
     let some : 1 ≤ c.self.inside.room = let asked = c.requires.room in omega (arith, spare, asked) in
     record {
-      kept = subst Keeps (sym c.push_reserved.ensures.records) (kept_push log c.self.inside.settings c.self.inside.frames lists keys
-          c.self.inside.tickets c.self.inside.casts leaver item c.follow.new.frames c.change-2.new.self.lists c.change.new.self.keys
+      kept = kept_whole Keeps whole c.push_reserved.new.self.records c.len-place.result item can c.push_reserved.ensures.records
+          c.len-place.ensures (kept_push log whole c.self.inside.settings c.self.inside.frames lists keys
+          c.self.inside.tickets c.self.inside.casts leaver c.self.inside.last item c.follow.new.frames c.change-2.new.self.lists c.change.new.self.keys
           (c.self.inside.tickets + c.counted_ticket.result) (c.self.inside.casts + c.counted_cast.result)
           c.leaver_next-self-inside.result kept can c.follow.ensures.ascending.ascending
-          (c.follow.ensures.frames ∙ ap (λ n. followed c.self.inside.frames n item) c.len.ensures)
+          (c.follow.ensures.frames ∙ ap (λ n. followed c.self.inside.frames n item) c.len-place.ensures)
           (c.change-2.ensures.lists ∙ ap (λ s. lists_after lists s item) accepted)
           c.change.ensures.pairs
           (ap (λ n. c.self.inside.tickets + n) c.counted_ticket.ensures)
@@ -88,3 +94,19 @@ invariant_of-self c =
         in_pairs = let was = room.in_pairs in omega (arith, was, some, within, c.change.ensures.room);
       };
     }
+
+pub returns-clause-records : goal.returns-clause-records
+returns-clause-records c =
+    let item = c.args.item in
+    let Can : LedgerValue → Type 0 = λ l. CanAdd l.records (item ∷ []) in
+    records_more c.self.inside.log.records c.push_reserved.new.self.records item (subst Can (sym c.self.view_is) c.requires.can_add)
+    c.push_reserved.ensures.records
+    ∙ ap (λ (l : LedgerValue). l.records ++ item ∷ []) c.self.view_is
+
+pub returns-clause-added : goal.returns-clause-added
+returns-clause-added c =
+    let item = c.args.item in
+    let Can : LedgerValue → Type 0 = λ l. CanAdd l.records (item ∷ []) in
+    added_stay c.self.inside.log.records c.push_reserved.new.self.records item (subst Can (sym c.self.view_is) c.requires.can_add)
+    c.push_reserved.ensures.records
+    ∙ ap (λ (l : LedgerValue). l.added) c.self.view_is

@@ -1,8 +1,9 @@
-use Rattle.std.proofs.Common.{◌≡◌, ◌≤◌, ◌∙◌, true, false, [], ◌∷◌, List, ap, sym, subst, arith}
+use Rattle.std.proofs.Common.{◌≡◌, ℕ, ◌≤◌, ◌∙◌, true, false, [], ◌∷◌, ◌++◌, List, ap, sym, subst, arith}
 use Rattle.std.specs.Prelude.{if◌then◌else◌, None}
 use Rattle.tap_log.specs.declared.record.Record.{Record}
 use Rattle.tap_log.specs.Kinds.{asked_ticket, begins_group, begun_cast, published_pair, withdrawn_pair}
 use Rattle.tap_log.specs.Log.{last_of}
+use Rattle.tap_log.specs.Reduced.{reduced}
 use Rattle.tap_log.proofs.MoreRecords.{one_more_record_holds}
 use Rattle.tap_history.specs.Departing.{departing_of}
 use Rattle.tap_ledger.specs.Added.{CanAdd}
@@ -12,14 +13,14 @@ use Rattle.tap_ledger.specs.Ledger.{LedgerValue}
 use Rattle.tap_ledger.specs.Pairs.{has_key}
 use Rattle.tap_ledger.specs.Quiet.{is_quiet}
 use Rattle.tap_ledger.proofs.Asked.{departing_by}
-use Rattle.tap_ledger.proofs.Keeping.{kept_push}
+use Rattle.tap_ledger.proofs.Keeping.{added_stay, kept_push, kept_whole, records_more}
 use Rattle.tap_ledger.proofs.Keys.{keys_stay}
 use Rattle.tap_ledger.proofs.Staying.{count_stays, lists_stay, quiet_tells}
 use Rattle.tap_ledger.proofs.ledger.Ledger.push_quiet.Goals as goal
 
 pub follow-requires-clause-few : goal.follow-requires-clause-few
 follow-requires-clause-few c =
-    let log = c.self.inside.log.records in
+    let log = reduced c.self.inside.log.records in
     let Can : LedgerValue → Type 0 = λ l. CanAdd l.records (c.args.item ∷ []) in
     let can = subst Can (sym c.self.view_is) c.requires.can_add in
     let within = can.within in
@@ -28,7 +29,8 @@ follow-requires-clause-few c =
 
 pub invariant_of-self : goal.invariant_of-self
 invariant_of-self c =
-    let log = c.self.inside.log.records in
+    let whole = c.self.inside.log.records in
+    let log = reduced whole in
     let settings = c.self.inside.settings in
     let frames = c.self.inside.frames in
     let lists = c.self.inside.roll.lists in
@@ -46,14 +48,15 @@ invariant_of-self c =
     let Quiet : LedgerValue → Type 0 = λ l. is_quiet (last_of l.records) item ≡ true in
     let tells = quiet_tells last item (subst Quiet (sym c.self.view_is) c.requires.quiet) in
     let departing : (if c.is_empty-rest.result then None else leaver) ≡ departing_of log =
-    departing_by log frames leaver c.is_empty-rest.result kept.flights kept.leaves c.is_empty-rest.ensures in
-    let Keeps : List Record → Type 0 = λ l. Kept l settings c.follow.new.frames lists keys tickets casts c.settle_leaver.new.leaver in
+    departing_by log whole frames leaver c.is_empty-rest.result kept.flights kept.leaves c.is_empty-rest.ensures in
+    let Keeps : List Record → List Record → ℕ → Type 0 = λ l w place. Kept l w settings c.follow.new.frames lists keys tickets casts c.settle_leaver.new.leaver place in
     let spare : c.self.inside.room ≡ c.args.self.now.spare = ap (λ (l : LedgerValue). l.spare) c.self.view_is in
     let some : 1 ≤ c.self.inside.room = let asked = c.requires.room in omega (arith, spare, asked) in
     record {
-      kept = subst Keeps (sym c.push_reserved.ensures.records) (kept_push log settings frames lists keys tickets casts leaver item
+      kept = kept_whole Keeps whole c.push_reserved.new.self.records c.len-place.result item can c.push_reserved.ensures.records
+          c.len-place.ensures (kept_push log whole settings frames lists keys tickets casts leaver c.self.inside.last item
           c.follow.new.frames lists keys tickets casts c.settle_leaver.new.leaver kept can c.follow.ensures.ascending.ascending
-          (c.follow.ensures.frames ∙ ap (λ n. followed frames n item) c.len.ensures)
+          (c.follow.ensures.frames ∙ ap (λ n. followed frames n item) c.len-place.ensures)
           (lists_stay lists last item tells.nobody)
           (λ q. keys_stay (has_key keys) (withdrawn_pair item) (published_pair item) q tells.withdrawn tells.published)
           (count_stays tickets (asked_ticket item) tells.asked)
@@ -70,3 +73,19 @@ invariant_of-self c =
         in_pairs = let was = room.in_pairs in omega (arith, was, some, within);
       };
     }
+
+pub returns-clause-records : goal.returns-clause-records
+returns-clause-records c =
+    let item = c.args.item in
+    let Can : LedgerValue → Type 0 = λ l. CanAdd l.records (item ∷ []) in
+    records_more c.self.inside.log.records c.push_reserved.new.self.records item (subst Can (sym c.self.view_is) c.requires.can_add)
+    c.push_reserved.ensures.records
+    ∙ ap (λ (l : LedgerValue). l.records ++ item ∷ []) c.self.view_is
+
+pub returns-clause-added : goal.returns-clause-added
+returns-clause-added c =
+    let item = c.args.item in
+    let Can : LedgerValue → Type 0 = λ l. CanAdd l.records (item ∷ []) in
+    added_stay c.self.inside.log.records c.push_reserved.new.self.records item (subst Can (sym c.self.view_is) c.requires.can_add)
+    c.push_reserved.ensures.records
+    ∙ ap (λ (l : LedgerValue). l.added) c.self.view_is
