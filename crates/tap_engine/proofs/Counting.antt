@@ -219,15 +219,15 @@ logs_spent m after first all size given counts few over answer log same =
 -- and else all of them
 pub logs_added : (m after : Engine) (first all : List Record) (size : ℕ) → sent_count all ≡ size
     → sent_count m.ledger.records ≤ m.frames → nat_lt (m.frames - sent_count m.ledger.records) size ≡ false
-    → after.ledger.records ≡ m.ledger.records ++ all → 2 ≤ after.ledger.spare → after ≡ record m { ledger = after.ledger }
+    → after.ledger.records ≡ m.ledger.records ++ all → 3 ≤ after.ledger.spare → after ≡ record m { ledger = after.ledger }
     → LogsAs (adds_within (seen m) first all) m (Ok tt) after
-logs_added m after first all size counts few under log two same =
+logs_added m after first all size counts few under log three same =
     let is : adds_within (seen m) first all ≡ adds (seen m) all =
     ap (λ w. if w then adds (seen m) all else spends (seen m) first) (within_is m all size false counts few under) in
     subst (λ o. LogsAs o m (Ok tt) after) (sym is) (record {
       answer = λ other. refl;
       log = λ other. log;
-      room = λ ok. two;
+      room = λ ok. three;
       short = λ none. let never : ◌≡◌ {A = Result (Unit {0}) Stop} (Ok tt) (Err NoMemory) = none in absurd (cc);
       same = same;
     })

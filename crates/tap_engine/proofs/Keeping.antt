@@ -1,6 +1,7 @@
 -- What a world keeps, once a step stands alone after its log, the log has its end, or memory was refused.
 -- Cited above: all_still, as_log, begun, end_same, grown_log, grown_named, HasGrown, kept_same, kept_short, on, same_beginning, seen, there
-use Rattle.std.proofs.Common.{◌≡◌, ◌≢◌, ℕ, ◌≤◌, Bool, true, false, List, [], ◌∷◌, ◌++◌, length, append-nil, Option, None, Some, Result, Err, is_some, refl, ap, sym, subst, ◌∙◌, arith}
+use Rattle.std.proofs.Common.{◌≡◌, ◌≢◌, ℕ, ◌+◌, ◌≤◌, Bool, true, false, List, [], ◌∷◌, ◌++◌, length, append-nil, Option, None, Some, Result, Err, is_some, refl, ap, sym, subst, ◌∙◌, arith}
+use Rattle.std.specs.Prelude.{if◌then◌else◌}
 use Rattle.std.specs.Option.{option_map}
 use Rattle.std.proofs.lemmas.List.Elements.{All-nil}
 use Rattle.tap_name.specs.Names.{has_name}
@@ -19,11 +20,12 @@ use Rattle.tap_node.specs.Node.{running}
 use Rattle.tap_runs.specs.Beginning.{Beginning}
 use Rattle.tap_runs.specs.Course.{IsCourse, is_choice, system_of}
 use Rattle.tap_runs.proofs.Departing.{course_nodes_holds}
+use Rattle.tap_ledger.specs.Woven.{Remark}
 use Rattle.tap_overlay.specs.Law.{HasNodesOf}
 use Rattle.tap_overlay.specs.Overlay.{OverlayValue, node_at}
-use Rattle.tap_engine.specs.KeptEngine.{AreKept, AreReady, EngineGoesOn, LeadsTo, room_kept, room_of_record, world_value}
+use Rattle.tap_engine.specs.KeptEngine.{AreKept, AreReady, EngineGoesOn, LeadsTo, room_kept, room_of_record, room_of_roots, world_value}
 use Rattle.tap_runs.specs.Named.{HasNames, HaveNames}
-use Rattle.tap_engine.specs.Kinds.{is_finished}
+use Rattle.tap_engine.specs.Kinds.{awaits_roots, is_finished}
 use Rattle.tap_engine.specs.Growth.{left_by_outcome}
 use Rattle.tap_engine.specs.Outcome.{IsNextIndex, WorldOutcome, adds, refuses_step}
 use Rattle.tap_engine.specs.Working.{StillHas}
@@ -106,13 +108,24 @@ room_two None = omega arith
 room_two (Some (StepRecord index step)) = omega arith
 room_two (Some item) = omega arith
 
--- an engine whose log is a course goes on, if its nodes are those of its system and there is room for two more records
+one_at_most : (asks : Bool) → (if asks then 1 else 0) ≤ 1
+one_at_most true = omega arith
+one_at_most false = omega arith
+
+-- what is always kept is room for three records at most
+pub room_three : (log : List Record) (added : List Remark) → room_kept (last_of log) + room_of_roots log added ≤ 3
+room_three log added =
+    let last = room_two (last_of log) in
+    let roots = one_at_most (awaits_roots log added) in
+    omega (arith, last, roots)
+
+-- an engine whose log is a course goes on, if its nodes are those of its system and there is room for three more records
 pub course_goes_on : (engine : Engine) (b : Beginning) → IsCourse b engine.ledger.records → is_ended engine.ledger.records ≡ false
-    → HasNodesOf (system_of engine.ledger.records) engine.overlay → 2 ≤ engine.ledger.spare → EngineGoesOn engine
-course_goes_on engine b course going nodes two = record {
+    → HasNodesOf (system_of engine.ledger.records) engine.overlay → 3 ≤ engine.ledger.spare → EngineGoesOn engine
+course_goes_on engine b course going nodes three = record {
   nodes = nodes;
   ever = (course_nodes_holds b engine.ledger.records course going).ever;
-  room = λ unfinished. let few = room_two (last_of engine.ledger.records) in omega (arith, few, two);
+  room = λ unfinished. let few = room_three engine.ledger.records engine.ledger.added in omega (arith, few, three);
 }
 
 -- the names of the steps of a longer log are of the settings, if those of the further records are
@@ -145,7 +158,8 @@ end_same b log steps course going = record {
 -- an engine with the same nodes, whose log says the same, keeps what it kept
 pub kept_same : (before after : Engine) (more : List Record) (refused : Option Refusal) → AreReady before → HasGrown before after more
     → SaysSame before.ledger.records more → HaveNames before.settings more → after.overlay ≡ before.overlay
-    → (is_finished after.ledger.records ≡ false → room_kept (last_of after.ledger.records) ≤ after.ledger.spare)
+    → (is_finished after.ledger.records ≡ false
+    → room_kept (last_of after.ledger.records) + room_of_roots after.ledger.records after.ledger.added ≤ after.ledger.spare)
     → IsWorldLog (world_value after refused false) → AreKept after refused false
 kept_same before after more refused ready grown same named overlay room log =
     let was = ready.kept in
@@ -172,15 +186,15 @@ kept_same before after more refused ready grown same named overlay room log =
 
 pub kept_pending : (before after : Engine) (index : ℕ) (step : Step) (refusal : Refusal) → (ready : AreReady before)
     → HasGrown before after (StepRecord index step ∷ []) → after.overlay ≡ before.overlay
-    → 2 ≤ after.ledger.spare → IsNextIndex (seen before) index → first_refusal before.ledger.records step ≡ Some refusal
+    → 3 ≤ after.ledger.spare → IsNextIndex (seen before) index → first_refusal before.ledger.records step ≡ Some refusal
     → is_choice step ≡ false → HasNames before.settings step → AreKept after (Some refusal) false
-kept_pending before after index step refusal ready grown overlay two next is unchosen named =
+kept_pending before after index step refusal ready grown overlay three next is unchosen named =
     let goes = on before ready in
     let more = StepRecord index step ∷ [] in
     kept_same before after more (Some refusal) ready grown
     (pending_same (seen before).beginning before.ledger.records index step refusal goes.course goes.going is)
     (step_named before.settings index step [] named (All-nil (λ item. step_of item ≡ None)))
-    overlay (λ unfinished. let few = room_two (last_of after.ledger.records) in omega (arith, few, two))
+    overlay (λ unfinished. let few = room_three after.ledger.records after.ledger.added in omega (arith, few, three))
     (grown_log before after more (Some refusal) false ready grown
     (refuses_log (seen before) (seen before).nodes goes index step next refusal is unchosen))
 
@@ -261,10 +275,10 @@ wanting outcome before after ready settings frames log still = record {
 -- a step that is refused
 pub refused_leads : (before after : Engine) (index : ℕ) (step : Step) (refusal : Refusal) → (ready : AreReady before)
     → HasGrown before after (StepRecord index step ∷ []) → after.overlay ≡ before.overlay
-    → 2 ≤ after.ledger.spare → IsNextIndex (seen before) index → first_refusal before.ledger.records step ≡ Some refusal
+    → 3 ≤ after.ledger.spare → IsNextIndex (seen before) index → first_refusal before.ledger.records step ≡ Some refusal
     → is_choice step ≡ false → HasNames before.settings step
     → LeadsTo (refuses_step (seen before) index step refusal) before (Err (Refused refusal)) after
-refused_leads before after index step refusal ready grown overlay two next is unchosen named =
+refused_leads before after index step refusal ready grown overlay three next is unchosen named =
     done (refuses_step (seen before) index step refusal) before (Err (Refused refusal)) after (λ never. cc) refl grown.log
-    (kept_pending before after index step refusal ready grown overlay two next is unchosen named) (λ _ _. overlay) grown.settings
+    (kept_pending before after index step refusal ready grown overlay three next is unchosen named) (λ _ _. overlay) grown.settings
     grown.frames

@@ -61,7 +61,7 @@ use Rattle.tap_engine.specs.declared.engine.Engine.{Engine}
 use Rattle.tap_engine.specs.declared.stop.Stop.{Stop}
 use Rattle.tap_engine.specs.declared.stop.Stop.TheVariants.{NoMemory, Refused}
 use Rattle.tap_engine.proofs.StandingAlone.{spent_names, step_names}
-use Rattle.tap_engine.proofs.Keeping.{HasGrown, as_log, begun, course_goes_on, done, grown_log, grown_named, kept_same, kept_short, kept_stopped, on, room_two, same_beginning, seen, there}
+use Rattle.tap_engine.proofs.Keeping.{HasGrown, as_log, begun, course_goes_on, done, grown_log, grown_named, kept_same, kept_short, kept_stopped, on, room_three, same_beginning, seen, there}
 use Rattle.tap_engine.proofs.Indices.{indices_stay}
 use Rattle.tap_runs.proofs.StepNames.{step_has_names}
 use Rattle.tap_engine.proofs.NamedSteps.{nothing_named, spent_named, step_named, unbegun_named}
@@ -77,9 +77,9 @@ pub kept_group : (before after : Engine) (first : Record) (items : List Record) 
     → HasGrown before after (first ∷ items) → (follows : Follows (seen before).beginning before.ledger.records (first ∷ items))
     → HasNodesOf (moved_by before.settings (system_of before.ledger.records) (move_of_group before.ledger.records (first ∷ items))) after.overlay
     → after.overlay.settings ≡ before.overlay.settings
-    → 2 ≤ after.ledger.spare → HaveNames before.settings (first ∷ items)
+    → 3 ≤ after.ledger.spare → HaveNames before.settings (first ∷ items)
     → IsWorldLog (left_by_outcome (seen before) (adds (seen before) (first ∷ items)) (seen before).nodes) → AreKept after None false
-kept_group before after first items ready grows follows nodes settings two named log =
+kept_group before after first items ready grows follows nodes settings three named log =
     let b = (seen before).beginning in
     let goes = on before ready in
     let was = before.ledger.records in
@@ -87,7 +87,7 @@ kept_group before after first items ready grows follows nodes settings two named
     let going = ap is_ended grows.log ∙ grown_going b was (first ∷ items) goes.course goes.going follows in
     let system : system_of after.ledger.records ≡ moved_by before.settings (system_of was) (move_of_group was (first ∷ items)) =
     ap system_of grows.log ∙ grown_system b was (first ∷ items) goes.course goes.going follows in
-    let go_on = course_goes_on after b course going (subst (λ s. HasNodesOf s after.overlay) (sym system) nodes) two in
+    let go_on = course_goes_on after b course going (subst (λ s. HasNodesOf s after.overlay) (sym system) nodes) three in
     record {
       log = grown_log before after (first ∷ items) None false ready grows log;
       named = grown_named before after (first ∷ items) grows named ready.kept.named;
@@ -101,13 +101,13 @@ kept_group before after first items ready grows follows nodes settings two named
 -- an engine whose log has more room is ready as it was
 pub still_ready : (before after : Engine) → AreReady before → after.settings ≡ before.settings → after.frames ≡ before.frames
     → after.ledger.records ≡ before.ledger.records → after.overlay ≡ before.overlay
-    → 2 ≤ after.ledger.spare → AreReady after
-still_ready before after ready settings frames log overlay two =
+    → 3 ≤ after.ledger.spare → AreReady after
+still_ready before after ready settings frames log overlay three =
     let same = append-nil before.ledger.records in
     let grows : HasGrown before after [] = record { settings = settings; frames = frames; log = log ∙ sym same } in
     record {
       kept = kept_same before after [] None ready grows (record { names = ap names_of same; system = ap system_of same })
-          (nothing_named before.settings) overlay (λ unfinished. let few = room_two (last_of after.ledger.records) in omega (arith, few, two))
+          (nothing_named before.settings) overlay (λ unfinished. let few = room_three after.ledger.records after.ledger.added in omega (arith, few, three))
           (as_log (seen before) (seen after) (same_beginning before after [] (begun before ready) grows) log refl refl ready.kept.log);
       unfinished = ap is_finished log ∙ ready.unfinished;
     }
@@ -130,7 +130,7 @@ within_items b log index step unchosen =
 module _ (before after : Engine) (index : ℕ) (step : Step) (ready : AreReady before) (next : IsNextIndex (seen before) index)
     (kind : (observes step ≡ true) ⊎ (damages step ≡ true)) (accepted : first_refusal before.ledger.records step ≡ None)
     (grows : HasGrown before after (step_group before.settings before.ledger.records index step))
-    (overlay : after.overlay ≡ before.overlay) (two : 2 ≤ after.ledger.spare)
+    (overlay : after.overlay ≡ before.overlay) (three : 3 ≤ after.ledger.spare)
     (named : HasNames before.settings step) where
   abbrev log : List Record
   log = before.ledger.records
@@ -152,7 +152,7 @@ module _ (before after : Engine) (index : ℕ) (step : Step) (ready : AreReady b
       let stays = quiet_moves before.settings (system_of log) log index step items (at_none step kind) accepted in
       kept_group before after (StepRecord index step) items ready grows quiet_follows
       (subst (λ s. HasNodesOf s after.overlay) (sym stays) (subst (HasNodesOf (system_of log)) (sym overlay) (ready.kept.go_on refl).nodes))
-      (ap (λ o. o.settings) overlay) two
+      (ap (λ o. o.settings) overlay) three
       (step_named before.settings index step items named
       (no_steps items (within_items (seen before).beginning log index step unchosen)))
       (within_log (seen before) (seen before).nodes goes index step next unchosen
@@ -339,13 +339,13 @@ module _ (m : Engine) (ready : AreReady m) (index : ℕ) (step : Step) (next : I
       started_still : StillHas m.overlay after.overlay
       started_still = subst (StillHas m.overlay) (sym overlay) still
 
-      started_kept : after.ledger.records ≡ was ++ group → is_within b was group ≡ true → 2 ≤ after.ledger.spare → AreKept after None false
-      started_kept log within two =
+      started_kept : after.ledger.records ≡ was ++ group → is_within b was group ≡ true → 3 ≤ after.ledger.spare → AreKept after None false
+      started_kept log within three =
           let goes = on m ready in
           kept_group m after (StepRecord index step) start_items ready (record { settings = settings; frames = frames; log = log })
           (follows_within b was group (step_may b was index step unchosen) within)
           (subst (HasNodesOf (moved_by p s (move_of_group was group))) (sym overlay) started_nodes)
-          (ap (λ x. x.settings) overlay ∙ still.settings) two
+          (ap (λ x. x.settings) overlay ∙ still.settings) three
           (step_named p index step start_items (step_has_names m.settings step names) (no_steps start_items (within_items b was index step unchosen)))
           (within_log (seen m) (seen m).nodes goes index step next unchosen within)
 
@@ -443,14 +443,14 @@ module _ (m : Engine) (ready : AreReady m) (number : ℕ) (waits : has_number (o
   -- an engine that has added the group
   taking_kept : (after : Engine) → HasGrown m after taking → HasNodesOf (moved m.settings taken_s (Delivers number)) after.overlay
       → after.overlay.settings ≡ m.overlay.settings
-      → is_within taken_b taken_was taking ≡ true → 2 ≤ after.ledger.spare → AreKept after None false
-  taking_kept after grows nodes settings within two =
+      → is_within taken_b taken_was taking ≡ true → 3 ≤ after.ledger.spare → AreKept after None false
+  taking_kept after grows nodes settings within three =
       let goes = on m ready in
       let items = taken_records m.settings taken_was taken_s number in
       let follows = follows_within taken_b taken_was taking (taken_may taken_b taken_was number waits) within in
       kept_group m after (Taken number) items ready grows follows
       (subst (λ move. HasNodesOf (moved_by m.settings taken_s move) after.overlay) (sym taking_moves) nodes) settings
-      two
+      three
       (unbegun_named m.settings taking (All-cons (λ item. step_of item ≡ None) (Taken number) items refl (no_steps items taking_within)))
       (adds_log (seen m) (seen m).nodes goes taking follows
       (indices_stay taken_was taking (All-cons (λ item. step_of item ≡ None) (Taken number) items refl (no_steps items taking_within)) goes.indices))
@@ -565,9 +565,9 @@ module _ (m n : Engine) (ready : AreReady m) (place number : ℕ) (at : slice_ge
 
 -- an engine that has only made room is ready
 pub reserved_ready : (m n : Engine) → AreReady m → n ≡ record m { ledger = n.ledger } → n.ledger.records ≡ m.ledger.records
-    → 3 ≤ n.ledger.spare → AreReady n
-reserved_ready m n ready same log three =
-    still_ready m n ready (ap (λ (q : Engine). q.settings) same) (ap (λ (q : Engine). q.frames) same) log (ap (λ (q : Engine). q.overlay) same) (omega (arith, three))
+    → 4 ≤ n.ledger.spare → AreReady n
+reserved_ready m n ready same log four =
+    still_ready m n ready (ap (λ (q : Engine). q.settings) same) (ap (λ (q : Engine). q.frames) same) log (ap (λ (q : Engine). q.overlay) same) (omega (arith, four))
 
 pub next_still : (m n : Engine) (index : ℕ) → n.ledger.records ≡ m.ledger.records → IsNextIndex (seen m) index → IsNextIndex (seen n) index
 next_still m n index log next = record {

@@ -9,6 +9,7 @@ pub mod StandingAlone
 pub mod Addable
 mod Deliveries
 pub mod Keeping
+mod Roots
 mod SoundCourse
 mod Taking
 mod Starting

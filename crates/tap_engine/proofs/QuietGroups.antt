@@ -92,7 +92,7 @@ module _ (m : Engine) (ready : AreReady m) (index : ℕ) (step : Step) where
       (all_still m.overlay after.overlay (ap (λ (q : Engine). q.overlay) same))
 
   module _ (next : IsNextIndex (seen m) index) (kind : (observes step ≡ true) ⊎ (damages step ≡ true)) (named : HasNames m.settings step)
-      (after : Engine) (same : after ≡ record m { ledger = after.ledger }) (two : 2 ≤ after.ledger.spare) where
+      (after : Engine) (same : after ≡ record m { ledger = after.ledger }) (three : 3 ≤ after.ledger.spare) where
     -- the step is refused, and is added alone
     pub quiet_refused : (refusal : Refusal) → first_refusal m.ledger.records step ≡ Some refusal
         → after.ledger.records ≡ m.ledger.records ++ StepRecord index step ∷ [] → Leads (Err (Refused refusal)) after
@@ -100,7 +100,7 @@ module _ (m : Engine) (ready : AreReady m) (index : ℕ) (step : Step) where
         subst (λ r. LeadsTo (unless_refused (seen m) index step r) m (Err (Refused refusal)) after) (sym is)
         (refused_leads m after index step refusal ready
         (record { settings = ap (λ (q : Engine). q.settings) same; frames = ap (λ (q : Engine). q.frames) same; log = log })
-        (ap (λ (q : Engine). q.overlay) same) two next is (no_choice step (inr kind)) named)
+        (ap (λ (q : Engine). q.overlay) same) three next is (no_choice step (inr kind)) named)
 
     -- its group is added
     pub quiet_whole : (group : List Record) → first_refusal m.ledger.records step ≡ None → group ≡ group_at m index step
@@ -112,4 +112,4 @@ module _ (m : Engine) (ready : AreReady m) (index : ℕ) (step : Step) where
           frames = ap (λ (q : Engine). q.frames) same;
           log = log ∙ ap (λ g. m.ledger.records ++ g) is;
         })
-        (ap (λ (q : Engine). q.overlay) same) two named
+        (ap (λ (q : Engine). q.overlay) same) three named

@@ -34,6 +34,7 @@ abbrev pub left_by_outcome : WorldValue → WorldOutcome → List (List ℕ × N
 left_by_outcome w outcome nodes = record {
   beginning = w.beginning;
   log = outcome.log;
+  added = w.added;
   refused = outcome.refused;
   stopped = outcome.stopped;
   nodes = nodes;

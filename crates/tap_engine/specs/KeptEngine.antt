@@ -1,7 +1,7 @@
 -- What a world keeps: its log, with room for more, and its nodes, which are those of the system that the log has come to.
 --
 -- Rule: docs/FORMATS.md, "The course of a run" and docs/DECISIONS.md, "The logs of a run".
-use Rattle.std.specs.Prelude.{◌≡◌, ◌≢◌, ◌≤◌, ℕ, Bool, true, false, List, is_some, Option, None, Some, Result, Err, option_and_then}
+use Rattle.std.specs.Prelude.{◌≡◌, ◌≢◌, ◌≤◌, ℕ, ◌+◌, Bool, true, false, if◌then◌else◌, List, is_some, Option, None, Some, Result, Err, option_and_then}
 use Rattle.tap_name.specs.Names.{has_name}
 use Rattle.tap_log.specs.declared.record.Record.{Record}
 use Rattle.tap_log.specs.declared.record.Record.TheVariants.{Step as StepRecord}
@@ -15,7 +15,8 @@ use Rattle.tap_runs.specs.Course.{system_of}
 use Rattle.tap_overlay.specs.Law.{HasNodesOf}
 use Rattle.tap_overlay.specs.Overlay.{is_core_value, node_at}
 use Rattle.tap_runs.specs.Named.{HaveNames}
-use Rattle.tap_engine.specs.Kinds.{is_finished}
+use Rattle.tap_ledger.specs.Woven.{Remark}
+use Rattle.tap_engine.specs.Kinds.{awaits_roots, is_finished}
 use Rattle.tap_engine.specs.Outcome.{WorldOutcome}
 use Rattle.tap_engine.specs.World.{WorldValue, node_of}
 use Rattle.tap_engine.specs.WorldLog.{IsWorldLog}
@@ -30,6 +31,7 @@ abbrev pub world_value : Engine → Option Refusal → Bool → WorldValue
 world_value engine refused stopped = record {
   beginning = record { settings = engine.settings; frames = engine.frames; members = members_of engine.ledger.records };
   log = engine.ledger.records;
+  added = engine.ledger.added;
   refused = refused;
   stopped = stopped;
   nodes = engine.overlay.nodes;
@@ -50,12 +52,17 @@ abbrev pub room_kept : Option Record → ℕ
 room_kept None = 1
 room_kept (Some item) = room_of_record item
 
+-- For how many more there is room if a step asks for roots, until a remark stands after it: for the roots.
+abbrev pub room_of_roots : List Record → List Remark → ℕ
+room_of_roots log added = if awaits_roots log added then 1 else 0
+
 -- The engine goes on: the nodes are those of the system that the log has come to, of the names that were ever present, and there is room
 -- unless the log has its end.
 pub record EngineGoesOn (engine : Engine) : Type 0 where
   pub nodes : HasNodesOf (system_of engine.ledger.records) engine.overlay
   pub ever : (name : List ℕ) → has_name (names_of engine.ledger.records) name ≡ is_some ((system_of engine.ledger.records).node name)
-  pub room : is_finished engine.ledger.records ≡ false → room_kept (last_of engine.ledger.records) ≤ engine.ledger.spare
+  pub room : is_finished engine.ledger.records ≡ false
+      → room_kept (last_of engine.ledger.records) + room_of_roots engine.ledger.records engine.ledger.added ≤ engine.ledger.spare
 
 -- The engine of a world: the log is a world's, the names of its steps are of the settings, and there is a node of each name that was ever
 -- present. Unless the world was stopped, the engine goes on.

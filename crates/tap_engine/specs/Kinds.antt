@@ -1,14 +1,15 @@
 -- Which steps each call of a world takes, and what the last records of a log are.
 --
 -- Rule: docs/FORMATS.md, "The course of a run".
-use Rattle.std.specs.Prelude.{ℕ, Bool, true, false, List, Option, None, Some, unwrap_or}
-use Rattle.std.specs.List.{filter_map, last_or}
+use Rattle.std.specs.Prelude.{ℕ, nat_eq, Bool, true, false, not, ◌&&◌, List, length, Option, None, Some, unwrap_or}
+use Rattle.std.specs.List.{filter_map, last_or, list_any}
 use Rattle.std.specs.Option.{option_map_or}
 use Rattle.tap_scenario.specs.declared.step.Step.{Step}
 use Rattle.tap_scenario.specs.declared.step.Step.TheVariants.{Walk, Root, Deliver, Table, Pointers, Garble, Cut, Tick, Lose, Repeat, RootSet}
 use Rattle.tap_log.specs.declared.record.Record.{Record}
-use Rattle.tap_log.specs.declared.record.Record.TheVariants.{Step as StepRecord, Finished}
+use Rattle.tap_log.specs.declared.record.Record.TheVariants.{Step as StepRecord, Finished, RootsOf}
 use Rattle.tap_log.specs.Log.{last_of}
+use Rattle.tap_ledger.specs.Woven.{Remark}
 
 -- the step observes: it changes nothing, and the log has what it sees
 unfoldable pub observes : Step → Bool
@@ -37,6 +38,26 @@ may_be_refused other = false
 unfoldable pub begun_index : Record → Option ℕ
 begun_index (StepRecord index step) = Some index
 begun_index other = None
+
+-- the step asks for the roots of salted names
+unfoldable pub asks_roots : Step → Bool
+asks_roots (RootSet object asker) = true
+asks_roots other = false
+
+-- the record begins such a step
+unfoldable pub begins_roots : Record → Bool
+begins_roots (StepRecord index step) = asks_roots step
+begins_roots other = false
+
+-- the record tells the roots
+unfoldable pub tells_roots : Record → Bool
+tells_roots (RootsOf object asker roots) = true
+tells_roots other = false
+
+-- the log ends with a step that asks for roots, and no remark stands after it
+abbrev pub awaits_roots : List Record → List Remark → Bool
+awaits_roots log added =
+    option_map_or begins_roots (last_of log) false && not (list_any (λ r. nat_eq r.plain_before (length log)) added)
 
 -- the indices of the steps that have begun, and the last one, 0 if none has
 abbrev pub begun_indices : List Record → List ℕ

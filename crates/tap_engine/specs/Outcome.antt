@@ -11,6 +11,7 @@ use Rattle.tap_log.specs.Counts.{sent_count}
 use Rattle.tap_log.specs.Log.{last_of}
 use Rattle.tap_history.specs.Moments.{outstanding}
 use Rattle.tap_history.specs.Refusals.{first_refusal}
+use Rattle.tap_ledger.specs.Woven.{remark_after}
 use Rattle.tap_runs.specs.Beginning.{Beginning}
 use Rattle.tap_runs.specs.Groups.{step_group, taken_group}
 use Rattle.tap_engine.specs.Kinds.{is_finished, last_index, may_be_refused, most_index}
@@ -110,7 +111,8 @@ pub record IsStoppedShort (before after : WorldValue) : Type 0 where
   pub log : after.log ≡ before.log
   pub refused : after.refused ≡ before.refused
 
--- The answer and the world afterwards are those of the outcome, unless memory was refused. With what the log begins stays.
+-- The answer and the world afterwards are those of the outcome, unless memory was refused. With what the log begins stays, and so do the
+-- remarks.
 pub record WorldAnswersAs (outcome : WorldOutcome) (before : WorldValue) (given : Result (Unit {0}) Stop) (after : WorldValue) : Type 0 where
   pub answer : given ≢ Err NoMemory → given ≡ outcome.answer
   pub log : given ≢ Err NoMemory → after.log ≡ outcome.log
@@ -118,6 +120,20 @@ pub record WorldAnswersAs (outcome : WorldOutcome) (before : WorldValue) (given 
   pub stopped : given ≢ Err NoMemory → after.stopped ≡ outcome.stopped
   pub memory : given ≡ Err NoMemory → IsStoppedShort before after
   pub beginning : after.beginning ≡ before.beginning
+  pub added : after.added ≡ before.added
+
+-- what a remark answers, unless memory is refused, by whether the world had been stopped
+abbrev pub remark_answer : Bool → Result (Unit {0}) Stop
+remark_answer stopped = if stopped then Err Ended else Ok tt
+
+-- How a remark goes: it comes last in the whole log; or the world had been stopped, and stays; or memory was refused, and it is stopped.
+-- All else stays.
+pub record Remarks (item : Record) (before : WorldValue) (given : Result (Unit {0}) Stop) (after : WorldValue) : Type 0 where
+  pub answer : given ≢ Err NoMemory → given ≡ remark_answer before.stopped
+  pub added : given ≡ Ok tt → after ≡ record before { added = before.added ++ remark_after before.log item ∷ [] }
+  pub ended : given ≡ Err Ended → after ≡ before
+  pub went_on : given ≡ Err NoMemory → before.stopped ≡ false
+  pub stopped : given ≡ Err NoMemory → after ≡ record before { stopped = true }
 
 -- ---- what the calls ask
 

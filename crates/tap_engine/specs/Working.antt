@@ -71,12 +71,12 @@ pub record CanAddTurn (engine : Engine) (first : List Record) (acted : Acted) : 
   pub counts : sent_count (first ++ turn_records (sent_count engine.ledger.records) acted.name acted.turn) ≡ length acted.turn.sent
   pub few : engine.frames ≤ most_ledger_frames
 
--- The answer and the log are those of the outcome, with room for two more records unless the world is to stop; or memory was refused,
+-- The answer and the log are those of the outcome, with room for three more records unless the world is to stop; or memory was refused,
 -- when the log stays. All else stays.
 pub record LogsAs (outcome : WorldOutcome) (before : Engine) (given : Result (Unit {0}) Stop) (after : Engine) : Type 0 where
   pub answer : given ≢ Err NoMemory → given ≡ outcome.answer
   pub log : given ≢ Err NoMemory → after.ledger.records ≡ outcome.log
-  pub room : given ≡ Ok tt → 2 ≤ after.ledger.spare
+  pub room : given ≡ Ok tt → 3 ≤ after.ledger.spare
   pub short : given ≡ Err NoMemory → after.ledger.records ≡ before.ledger.records
   pub same : after ≡ record before { ledger = after.ledger }
 

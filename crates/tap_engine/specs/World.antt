@@ -7,6 +7,7 @@ use Rattle.tap_log.specs.declared.record.Record.{Record}
 use Rattle.tap_log.specs.declared.record.Refusal.{Refusal}
 use Rattle.tap_history.specs.Names.{names_of}
 use Rattle.tap_name.specs.Names.{has_name}
+use Rattle.tap_ledger.specs.Woven.{Remark}
 use Rattle.tap_node.specs.Node.{NodeValue, running}
 use Rattle.tap_overlay.specs.Overlay.{node_among}
 use Rattle.tap_safety.specs.AtRest.{system_at_rest}
@@ -14,11 +15,13 @@ use Rattle.tap_safety.specs.System.{System}
 use Rattle.tap_runs.specs.Beginning.{Beginning, begin_record}
 use Rattle.tap_runs.specs.Course.{system_of}
 
--- With what its log begins; the log; the refusal that isn't noted yet; whether it was stopped, by want of memory or since more
--- frames would have been sent than may be; and the nodes, each under its name, ascending.
+-- With what its log begins; the log, which is of plain records; what only a carrier tells, each record with how many plain ones stand
+-- before it; the refusal that isn't noted yet; whether it was stopped, by want of memory or since more frames would have been sent than
+-- may be; and the nodes, each under its name, ascending.
 pub record WorldValue : Type 0 where
   pub beginning : Beginning
   pub log : List Record
+  pub added : List Remark
   pub refused : Option Refusal
   pub stopped : Bool
   pub nodes : List (List ℕ × NodeValue)
@@ -39,6 +42,7 @@ HasNodesOfLog w = (name : List ℕ) → node_of w name ≡ nodes_running (system
 pub record HasBegun (b : Beginning) (w : WorldValue) : Type 0 where
   pub beginning : w.beginning ≡ b
   pub log : w.log ≡ begin_record b ∷ []
+  pub added : w.added ≡ []
   pub refused : w.refused ≡ None
   pub goes_on : w.stopped ≡ false
   pub members : (name : List ℕ) → node_of w name ≡ nodes_running (system_at_rest b.settings b.members) name

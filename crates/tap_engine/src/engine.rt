@@ -1,7 +1,12 @@
-ghost use Rattle.std.specs.Prelude.{◌≡◌, ◌≤◌, ◌+◌, ◌-◌, ◌⊎◌, nat_lt, [], ◌∷◌, ◌++◌, length, IfOk, IsOk, OnOk, OnErr, Err};
+ghost use Rattle.std.specs.Prelude.{◌≡◌, ◌≤◌, ◌+◌, ◌-◌, ◌⊎◌, true, ◌&&◌, nat_le, nat_lt, [], ◌∷◌, ◌++◌, length, IfOk, IsOk, OnOk, OnErr, Err};
 ghost use Rattle.tap_log.specs.Counts.{sent_count};
+ghost use Rattle.tap_log.specs.Log.{last_of};
 ghost use Rattle.tap_log.specs.MoreRecords.{at_most_one};
+ghost use Rattle.tap_log.specs.Reduced.{is_added};
 ghost use Rattle.tap_history.specs.Refusals.{first_refusal};
+ghost use Rattle.tap_ledger.specs.Woven.{remark_after};
+ghost use Rattle.tap_engine.specs.Kinds.{tells_roots};
+ghost use Rattle.tap_engine.specs.KeptEngine.{room_kept};
 ghost use Rattle.tap_engine.specs.Working.{IsActed};
 
 use crate::pushes::push_some;
@@ -15,8 +20,11 @@ use tap_node_common::FrameList;
 use tap_overlay::{Overlay, OverlayFault};
 use tap_scenario::Step;
 
-// The room for a step and one record after it, with room for a refusal and the last record after these.
-const ROOM_FOR_STEP: usize = 4;
+// The room for a step and one record after it, with the room that is kept after these.
+const ROOM_FOR_STEP: usize = 5;
+
+// The room that is kept after a group: for a refusal, for the roots that a step asks for, and for the last record.
+const ROOM_KEPT: usize = 3;
 
 /// What a world works on. Between its calls the nodes are those that the log has come to; in the midst of one they are ahead of it.
 ///
@@ -45,14 +53,15 @@ pub(crate) struct Acted {
 impl Engine {
     ghost use Rattle.tap_ledger.specs.Added.{CanAdd};
 
-    // Why a step is refused, if it is. Room is taken for the step, for its refusal or `Spent`, and for the last record.
+    // Why a step is refused, if it is. Room is taken for the step, or for it and `Spent`, with the room that is kept after it.
     pub(crate) fn refusal_of(&mut self, step: &Step) -> Result<Option<Refusal>, NoMemory>
         ensures refusal { IfOk result (λ refusal. refusal ≡ first_refusal self.old.ledger.records step.now) }
-        ensures room { OnOk result (3 ≤ self.new.ledger.spare) }
+        ensures room { OnOk result (4 ≤ self.new.ledger.spare) }
         ensures same { self.new ≡ record self.old { ledger = self.new.ledger } }
         ensures log { self.new.ledger.records ≡ self.old.ledger.records }
+        ensures added { self.new.ledger.added ≡ self.old.ledger.added }
     {
-        self.ledger.reserve(3)?;
+        self.ledger.reserve(4)?;
         Ok(self.ledger.refusal(self.alloc, step)?)
     }
 
@@ -65,17 +74,19 @@ impl Engine {
         (left as usize) < sent.len()
     }
 
-    /// A step that only chooses is added alone, with room for its refusal and the last record. `NoMemory` adds nothing.
+    /// A step that only chooses is added alone, with room for its refusal, the roots that it asks for, and the last record. `NoMemory` adds
+    /// nothing.
     ///
     /// Rule: docs/FORMATS.md, "The course of a run".
     pub fn mark(&mut self, index: u32, step: &Step) -> Result<(), NoMemory>
         requires { CanAdd self.old.ledger.records (Record.Step index step.now ∷ []) }
         ensures same { self.new ≡ record self.old { ledger = self.new.ledger } }
+        ensures added { self.new.ledger.added ≡ self.old.ledger.added }
         ensures ok { OnOk result (self.new.ledger.records ≡ self.old.ledger.records ++ Record.Step index step.now ∷ []) }
-        ensures room { OnOk result (2 ≤ self.new.ledger.spare) }
+        ensures room { OnOk result (3 ≤ self.new.ledger.spare) }
         ensures err { OnErr result (self.new.ledger.records ≡ self.old.ledger.records) }
     {
-        self.ledger.reserve(3)?;
+        self.ledger.reserve(4)?;
         self.add_step(index, step);
         Ok(())
     }
@@ -87,6 +98,7 @@ impl Engine {
         requires room { 1 ≤ self.old.ledger.spare }
         requires can_add { CanAdd self.old.ledger.records (Record.Refused index refusal ∷ []) }
         ensures same { self.new ≡ record self.old { ledger = self.new.ledger } }
+        ensures added { self.new.ledger.added ≡ self.old.ledger.added }
         ensures log { self.new.ledger.records ≡ self.old.ledger.records ++ Record.Refused index refusal ∷ [] }
         ensures spare { self.new.ledger.spare + 1 ≡ self.old.ledger.spare }
     {
@@ -101,9 +113,40 @@ impl Engine {
         requires room { 1 ≤ self.old.ledger.spare }
         requires can_add { CanAdd self.old.ledger.records (Record.Finished steps ∷ []) }
         ensures same { self.new ≡ record self.old { ledger = self.new.ledger } }
+        ensures added { self.new.ledger.added ≡ self.old.ledger.added }
         ensures log { self.new.ledger.records ≡ self.old.ledger.records ++ Record.Finished steps ∷ [] }
     {
         self.ledger.push_reserved(Record::Finished { steps });
+    }
+
+    /// A remark is added: a record that only a carrier tells. The room that is kept stays, and `NoMemory` adds nothing.
+    ///
+    /// Roots take the room that was made for them with the step that asks for them, and no memory.
+    ///
+    /// Rule: docs/FORMATS.md, "Groups and moments".
+    pub fn remark(&mut self, item: Record) -> Result<(), NoMemory>
+        requires { is_added item ≡ true }
+        ensures same { self.new ≡ record self.old { ledger = self.new.ledger } }
+        ensures log { self.new.ledger.records ≡ self.old.ledger.records }
+        ensures ok { OnOk result (self.new.ledger.added ≡ self.old.ledger.added ++ remark_after self.old.ledger.records item ∷ []) }
+        ensures roots { tells_roots item ≡ true → 3 ≤ self.old.ledger.spare → IsOk result }
+        ensures room { room_kept (last_of self.old.ledger.records) ≤ self.old.ledger.spare
+            → room_kept (last_of self.old.ledger.records) ≤ self.new.ledger.spare }
+        ensures err { OnErr result (self.new ≡ self.old) }
+    {
+        if self.has_room_for(&item) {
+            self.ledger.remark_reserved(item);
+            return Ok(());
+        }
+        self.ledger.remark(item)?;
+        Ok(())
+    }
+
+    // Whether the remark tells roots, and there is room for them beside what is always kept.
+    fn has_room_for(&self, item: &Record) -> bool
+        ensures { result ≡ (tells_roots item.now && nat_le 3 self.now.ledger.spare) }
+    {
+        tells_roots(item) && ROOM_KEPT <= self.ledger.spare()
     }
 
     // Adds a step alone, for which there is room. It takes no memory.
@@ -111,6 +154,7 @@ impl Engine {
         requires room { 1 ≤ self.old.ledger.spare }
         requires can_add { CanAdd self.old.ledger.records (Record.Step index step.now ∷ []) }
         ensures same { self.new ≡ record self.old { ledger = self.new.ledger } }
+        ensures added { self.new.ledger.added ≡ self.old.ledger.added }
         ensures log { self.new.ledger.records ≡ self.old.ledger.records ++ Record.Step index step.now ∷ [] }
         ensures spare { self.new.ledger.spare + 1 ≡ self.old.ledger.spare }
     {
@@ -124,6 +168,7 @@ impl Engine {
         requires can_add { CanAdd self.old.ledger.records (Record.Spent self.old.frames ∷ []) }
         ensures answer { result ≡ Err Stop.Spent }
         ensures same { self.new ≡ record self.old { ledger = self.new.ledger } }
+        ensures added { self.new.ledger.added ≡ self.old.ledger.added }
         ensures log { self.new.ledger.records ≡ self.old.ledger.records ++ Record.Spent self.old.frames ∷ [] }
     {
         self.ledger
@@ -131,8 +176,7 @@ impl Engine {
         Err(Stop::Spent)
     }
 
-    // Adds a step, with the record that follows it if one does, and keeps room for a refusal and the last record. A refused call changes
-    // nothing.
+    // Adds a step, with the record that follows it if one does, with the room that is kept after these. A refused call changes nothing.
     pub(crate) fn add_step_with(
         &mut self,
         index: u32,
@@ -141,8 +185,9 @@ impl Engine {
     ) -> Result<(), NoMemory>
         requires { CanAdd self.old.ledger.records (Record.Step index step.now ∷ at_most_one item) }
         ensures ok { OnOk result (self.new.ledger.records ≡ self.old.ledger.records ++ Record.Step index step.now ∷ at_most_one item) }
-        ensures room { OnOk result (2 ≤ self.new.ledger.spare) }
+        ensures room { OnOk result (3 ≤ self.new.ledger.spare) }
         ensures same { self.new ≡ record self.old { ledger = self.new.ledger } }
+        ensures added { self.new.ledger.added ≡ self.old.ledger.added }
         ensures err { OnErr result (self.new ≡ self.old) }
     {
         self.ledger.reserve(ROOM_FOR_STEP)?;
@@ -161,4 +206,12 @@ pub(crate) fn acted_by(name: Name, answer: Result<Turn, OverlayFault>) -> Result
         Ok(turn) => Ok(Acted { name, turn }),
         Err(_) => Err(NoMemory),
     }
+}
+
+// Whether the record tells roots.
+#[tactic(auto, unfolding(crate::specs::Kinds::tells_roots))]
+fn tells_roots(item: &Record) -> bool
+    ensures { result ≡ tells_roots item.now }
+{
+    matches!(item, Record::RootsOf { .. })
 }

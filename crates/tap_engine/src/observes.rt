@@ -40,6 +40,7 @@ impl Engine {
         ensures leads { LeadsTo (unless_refused (world_value self.old None false) index step.now (first_refusal self.old.ledger.records step.now))
             self.old result self.new }
         ensures alone { self.new ≡ record self.old { ledger = self.new.ledger } }
+        ensures added { self.new.ledger.added ≡ self.old.ledger.added }
     {
         if let Some(refusal) = self.refusal_of(step)? {
             self.add_step(index, step);

@@ -19,6 +19,7 @@ pub(crate) fn push_turn(ledger: &mut Ledger, name: &Name, sent: FrameList, news:
         (turn_records (sent_count ledger.old.records) name.now (record { sent = sent; news = news.now })) }
     ensures records { ledger.new.records ≡ ledger.old.records
         ++ turn_records (sent_count ledger.old.records) name.now (record { sent = sent; news = news.now }) }
+    ensures added { ledger.new.added ≡ ledger.old.added }
     ensures spare { ledger.old.spare ≤ ledger.new.spare + (length sent + 2) }
 {
     match news {
@@ -35,6 +36,7 @@ fn push_with_news(ledger: &mut Ledger, name: &Name, news: &News, frames: Vec<Byt
         (seen_before name.now news.now ++ (bytes_records (sent_count ledger.old.records) frames.items ++ seen_after news.now)) }
     ensures records { ledger.new.records ≡ ledger.old.records
         ++ (seen_before name.now news.now ++ (bytes_records (sent_count ledger.old.records) frames.items ++ seen_after news.now)) }
+    ensures added { ledger.new.added ≡ ledger.old.added }
     ensures spare { ledger.old.spare ≤ ledger.new.spare + (length frames.items + 2) }
 {
     push_some(ledger, record_before(name, news));
@@ -48,6 +50,7 @@ pub(crate) fn push_some(ledger: &mut Ledger, item: Option<Record>)
     requires room { 1 ≤ ledger.old.spare }
     requires can_add { CanAdd ledger.old.records (at_most_one item) }
     ensures records { ledger.new.records ≡ ledger.old.records ++ at_most_one item }
+    ensures added { ledger.new.added ≡ ledger.old.added }
     ensures spare { ledger.old.spare ≤ ledger.new.spare + 1 }
 {
     if let Some(item) = item {
@@ -60,6 +63,7 @@ fn push_frames(ledger: &mut Ledger, frames: Vec<Bytes>)
     requires room { length frames.items ≤ ledger.old.spare }
     requires can_add { CanAdd ledger.old.records (bytes_records (sent_count ledger.old.records) frames.items) }
     ensures records { ledger.new.records ≡ ledger.old.records ++ bytes_records (sent_count ledger.old.records) frames.items }
+    ensures added { ledger.new.added ≡ ledger.old.added }
     ensures spare { ledger.new.spare + length frames.items ≡ ledger.old.spare }
 {
     for bytes in frames {

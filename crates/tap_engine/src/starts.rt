@@ -24,9 +24,9 @@ use tap_overlay::Start;
 use tap_scenario::{Prefix, Step, Word};
 use tap_wire::Bytes;
 
-// The room for a group beside that for its frames, with room for a refusal and the last record after it: the record of the step, one of what
-// it announces, and one of news before and one after the frames.
-const ROOM_BESIDE_FRAMES: usize = 6;
+// The room for a group beside that for its frames, with the room that is kept after it: the record of the step, one of what it announces,
+// and one of news before and one after the frames.
+const ROOM_BESIDE_FRAMES: usize = 7;
 
 // The starts.
 impl Engine {
@@ -51,8 +51,9 @@ impl Engine {
         requires next { IsNextIndex (world_value self.old None false) index }
         requires kind { is_start step.now ≡ true }
         requires names { IsStep self.old.settings false step.now }
-        ensures { LeadsTo (unless_refused (world_value self.old None false) index step.now (first_refusal self.old.ledger.records step.now))
+        ensures leads { LeadsTo (unless_refused (world_value self.old None false) index step.now (first_refusal self.old.ledger.records step.now))
             self.old result self.new }
+        ensures added { self.new.ledger.added ≡ self.old.ledger.added }
     {
         if let Some(refusal) = self.refusal_of(step)? {
             self.add_step(index, step);
@@ -71,14 +72,15 @@ impl Engine {
         item: Option<Record>,
         acted: Acted,
     ) -> Result<(), Stop>
-        requires room { 3 ≤ self.old.ledger.spare }
+        requires room { 4 ≤ self.old.ledger.spare }
         requires sent { sent_count self.old.ledger.records ≤ self.old.frames }
         requires step { CanAdd self.old.ledger.records (Record.Step index step.now ∷ []) }
         requires spent { CanAdd (self.old.ledger.records ++ Record.Step index step.now ∷ []) (Record.Spent self.old.frames ∷ []) }
         requires can_add { CanAddTurn self.old (Record.Step index step.now ∷ at_most_one item) acted }
-        ensures { let w = world_value self.old None false in
+        ensures logs { let w = world_value self.old None false in
             let all = (Record.Step index step.now ∷ at_most_one item) ++ turn_records (sent_count self.old.ledger.records) acted.name acted.turn in
             LogsAs (adds_within w (Record.Step index step.now ∷ []) all) self.old result self.new }
+        ensures added { self.new.ledger.added ≡ self.old.ledger.added }
     {
         if self.is_too_many(&acted.turn.sent) {
             self.add_step(index, step);

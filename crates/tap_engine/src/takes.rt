@@ -1,4 +1,4 @@
-ghost use Rattle.std.specs.Prelude.{◌<◌, ◌≤◌, ◌∷◌, [], false, slice_get, None};
+ghost use Rattle.std.specs.Prelude.{◌≡◌, ◌<◌, ◌≤◌, ◌∷◌, [], false, slice_get, None};
 ghost use Rattle.tap_log.specs.Counts.{sent_count};
 ghost use Rattle.tap_history.specs.Moments.{outstanding};
 ghost use Rattle.tap_engine.specs.SeenTurns.{turn_records};
@@ -12,9 +12,9 @@ use tap_node::News;
 use tap_node_common::FrameList;
 use tap_wire::decode_head;
 
-// The room for a group beside that for its frames, with room for a refusal and the last record after it: the record of the frame that is
-// taken, and one of news before and one after the frames.
-const ROOM_BESIDE_FRAMES: usize = 5;
+// The room for a group beside that for its frames, with the room that is kept after it: the record of the frame that is taken, and one of
+// news before and one after the frames.
+const ROOM_BESIDE_FRAMES: usize = 6;
 
 // The frames that are taken.
 impl Engine {
@@ -34,8 +34,9 @@ impl Engine {
     /// Rule: docs/FORMATS.md, "The course of a run".
     pub fn deliver(&mut self, place: u32) -> Result<(), Stop>
         requires { AreReady self.old }
-        ensures { LeadsTo (takes_number (world_value self.old None false) (slice_get (outstanding self.old.ledger.records) place))
+        ensures leads { LeadsTo (takes_number (world_value self.old None false) (slice_get (outstanding self.old.ledger.records) place))
             self.old result self.new }
+        ensures added { self.new.ledger.added ≡ self.old.ledger.added }
     {
         let Some(flight) = self.ledger.flight_at(place) else {
             return Err(Stop::Refused(Refusal::NoSuchFlight(self.ledger.outstanding())));
@@ -64,10 +65,11 @@ impl Engine {
         requires sent { sent_count self.old.ledger.records ≤ self.old.frames }
         requires can_add { CanAddTurn self.old (Record.Taken number ∷ [])
             (record { name = name.now; turn = record { sent = sent; news = news.now } }) }
-        ensures { let w = world_value self.old None false in
+        ensures logs { let w = world_value self.old None false in
             let group = Record.Taken number ∷ turn_records (sent_count self.old.ledger.records) name.now
             (record { sent = sent; news = news.now }) in
             LogsAs (adds_within w [] group) self.old result self.new }
+        ensures added { self.new.ledger.added ≡ self.old.ledger.added }
     {
         if self.is_too_many(&sent) {
             return self.spend();

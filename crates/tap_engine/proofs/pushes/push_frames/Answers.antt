@@ -36,6 +36,7 @@ loop-bytes-preserved c =
           ∙ ap (λ l. log ++ bytes_records number l) (sym step) ∙ was.records;
       can_add = subst (λ n. CanAdd c.push_sent.new.self.records (bytes_records n rest)) (sym on)
           (subst (λ l. CanAdd l (bytes_records (number + 1) rest)) (sym more) can);
+      added = c.push_sent.ensures.added ∙ was.added;
       spare = omega (arith, ap length step, was.spare, c.push_sent.ensures.spare);
       room = omega (arith, ap length step, was.room, c.push_sent.ensures.spare);
     }

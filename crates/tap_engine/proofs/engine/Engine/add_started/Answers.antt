@@ -11,8 +11,8 @@ use Rattle.tap_ledger.proofs.Adding.{can_first, can_rest}
 use Rattle.tap_engine.proofs.Counting.{group_may_be_added, logs_added, logs_spent, turn_added, turn_may_be_added}
 use Rattle.tap_engine.proofs.engine.Engine.add_started.Goals as goal
 
-pub returns-then-is_too_many : goal.returns-then-is_too_many
-returns-then-is_too_many c =
+pub returns-then-is_too_many-clause-logs : goal.returns-then-is_too_many-clause-logs
+returns-then-is_too_many-clause-logs c =
     let m = c.args.self.now in
     let step : List Record = StepRecord c.args.index c.args.step.now ∷ [] in
     let acted = c.args.acted in
@@ -56,8 +56,8 @@ push_turn-requires-clause-can_add c =
     subst (λ l. CanAdd l (turn_records (sent_count l) acted.name acted.turn)) (sym now)
     (turn_may_be_added m (step ++ item) acted c.requires.can_add c.requires.sent (sym c.is_too_many.ensures ∙ c.if-is_too_many.false))
 
-pub returns : goal.returns
-returns c =
+pub returns-clause-logs : goal.returns-clause-logs
+returns-clause-logs c =
     let m = c.args.self.now in
     let acted = c.args.acted in
     let step : List Record = StepRecord c.args.index c.args.step.now ∷ [] in
@@ -70,7 +70,7 @@ returns c =
     let two = c.push_some.ensures.spare in
     let rest = c.push_turn.ensures.spare in
     let size = c.len.ensures in
-    let most = le-max_right m.ledger.spare (c.len.result + 6) in
+    let most = le-max_right m.ledger.spare (c.len.result + 7) in
     logs_added m after step ((step ++ item) ++ turn_records (sent_count m.ledger.records) acted.name acted.turn) (length acted.turn.sent)
     c.requires.can_add.counts c.requires.sent (sym c.is_too_many.ensures ∙ c.if-is_too_many.false)
     (turn_added m (step ++ item) acted c.requires.can_add c.push_some.new.ledger.records c.push_turn.new.ledger.records now c.push_turn.ensures.records)

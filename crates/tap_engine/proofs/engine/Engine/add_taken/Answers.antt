@@ -11,8 +11,8 @@ use Rattle.tap_engine.specs.declared.engine.Engine.{Engine}
 use Rattle.tap_engine.proofs.Counting.{group_may_be_added, logs_added, logs_spent, turn_added, turn_may_be_added}
 use Rattle.tap_engine.proofs.engine.Engine.add_taken.Goals as goal
 
-pub returns-then-is_too_many : goal.returns-then-is_too_many
-returns-then-is_too_many c =
+pub returns-then-is_too_many-clause-logs : goal.returns-then-is_too_many-clause-logs
+returns-then-is_too_many-clause-logs c =
     let m = c.args.self.now in
     let acted : Acted = record { name = c.args.name.now; turn = record { sent = c.args.sent; news = c.args.news.now } } in
     let all : List Record = Taken c.args.number ∷ turn_records (sent_count m.ledger.records) acted.name acted.turn in
@@ -39,8 +39,8 @@ push_turn-requires-clause-can_add c =
     subst (λ l. CanAdd l (turn_records (sent_count l) acted.name acted.turn)) (sym now)
     (turn_may_be_added m taken acted c.requires.can_add c.requires.sent (sym c.is_too_many.ensures ∙ c.if-is_too_many.false))
 
-pub returns : goal.returns
-returns c =
+pub returns-clause-logs : goal.returns-clause-logs
+returns-clause-logs c =
     let m = c.args.self.now in
     let acted : Acted = record { name = c.args.name.now; turn = record { sent = c.args.sent; news = c.args.news.now } } in
     let taken : List Record = Taken c.args.number ∷ [] in
@@ -51,7 +51,7 @@ returns c =
     let one = c.push_reserved.ensures.spare in
     let rest = c.push_turn.ensures.spare in
     let size = c.len.ensures in
-    let most = le-max_right m.ledger.spare (c.len.result + 5) in
+    let most = le-max_right m.ledger.spare (c.len.result + 6) in
     logs_added m after [] (taken ++ turn_records (sent_count m.ledger.records) acted.name acted.turn) (length acted.turn.sent)
     c.requires.can_add.counts c.requires.sent (sym c.is_too_many.ensures ∙ c.if-is_too_many.false)
     (turn_added m taken acted c.requires.can_add c.push_reserved.new.self.records c.push_turn.new.ledger.records now c.push_turn.ensures.records)

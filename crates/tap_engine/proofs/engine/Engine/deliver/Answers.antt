@@ -67,8 +67,8 @@ add_taken-requires-clause-can_add c =
     can_add_turn m n (Taken number ∷ []) acted c.requires refl refl refl (taken_sent number)
     (delivered_may m n c.requires c.args.place number at refl acted taken)
 
-pub returns-in-Ok-take : goal.returns-in-Ok-take
-returns-in-Ok-take c =
+pub returns-in-Ok-take-clause-leads : goal.returns-in-Ok-take-clause-leads
+returns-in-Ok-take-clause-leads c =
     let m = c.args.self.now in
     let n : Engine = record m { overlay = c.take.new.self } in
     let number = c.in-Some.flight.number in
@@ -78,10 +78,10 @@ returns-in-Ok-take c =
     c.in-Ok-take.turn c.in-Ok-take.is at c.in-Some.ensures.bytes c.in-Ok.ensures.whole c.take.ensures.step c.take.ensures.settings in
     let still = still_has (λ node. take_outcome node c.in-Some.flight.bytes.now) m.overlay c.take.new.self c.in-Ok.head.to c.take.result
     c.take.ensures.step c.take.ensures.settings in
-    taken_leads m n c.requires c.args.place number at refl acted taken c.add_taken.new.self c.add_taken.result still c.add_taken.ensures
+    taken_leads m n c.requires c.args.place number at refl acted taken c.add_taken.new.self c.add_taken.result still c.add_taken.ensures.logs
 
-pub returns-in-Err : goal.returns-in-Err
-returns-in-Err c =
+pub returns-in-Err-clause-leads : goal.returns-in-Err-clause-leads
+returns-in-Err-clause-leads c =
     let m = c.args.self.now in
     let n : Engine = record m { overlay = c.take.new.self } in
     let still = still_has (λ node. take_outcome node c.in-Some.flight.bytes.now) m.overlay c.take.new.self c.in-Ok.head.to c.take.result

@@ -23,8 +23,8 @@ use Rattle.tap_engine.proofs.QuietGroups.{short_leads}
 use Rattle.tap_engine.proofs.AddedGroups.{no_choice}
 use Rattle.tap_engine.proofs.engine.Engine.start.Goals as goal
 
-pub returns-in_err-refusal : goal.returns-in_err-refusal
-returns-in_err-refusal c =
+pub returns-in_err-refusal-clause-leads : goal.returns-in_err-refusal-clause-leads
+returns-in_err-refusal-clause-leads c =
     let made = err_from_is_err_and c.from_residual.result c.from_residual.ensures.1 in
     rw (made.1, made.2)
     (short_leads c.args.self.now c.requires.ready c.args.index c.args.step.now c.refusal_of.new.self c.refusal_of.ensures.same
@@ -36,8 +36,8 @@ add_step-requires-clause-can_add c =
     subst (λ l. CanAdd l (StepRecord c.args.index c.args.step.now ∷ [])) (sym c.refusal_of.ensures.log)
     (step_fits m.ledger.records c.args.index c.args.step.now (few_sent_most m c.requires.ready))
 
-pub returns-in-Some : goal.returns-in-Some
-returns-in-Some c =
+pub returns-in-Some-clause-leads : goal.returns-in-Some-clause-leads
+returns-in-Some-clause-leads c =
     let m = c.args.self.now in
     let after = c.add_step.new.self in
     let same = c.add_step.ensures.same in
@@ -59,8 +59,8 @@ announced-requires-clause-ready c =
     reserved_ready c.args.self.now c.refusal_of.new.self c.requires.ready c.refusal_of.ensures.same c.refusal_of.ensures.log
     c.in_ok-refusal.ensures.room
 
-pub returns-in_err-item : goal.returns-in_err-item
-returns-in_err-item c =
+pub returns-in_err-item-clause-leads : goal.returns-in_err-item-clause-leads
+returns-in_err-item-clause-leads c =
     let made = err_from_is_err_and c.from_residual-in_err-item.result c.from_residual-in_err-item.ensures.1 in
     rw (made.1, made.2)
     (short_leads c.args.self.now c.requires.ready c.args.index c.args.step.now c.refusal_of.new.self c.refusal_of.ensures.same
@@ -71,8 +71,8 @@ begin-requires-clause-ready c =
     reserved_ready c.args.self.now c.refusal_of.new.self c.requires.ready c.refusal_of.ensures.same c.refusal_of.ensures.log
     c.in_ok-refusal.ensures.room
 
-pub returns-in_err-acted : goal.returns-in_err-acted
-returns-in_err-acted c =
+pub returns-in_err-acted-clause-leads : goal.returns-in_err-acted-clause-leads
+returns-in_err-acted-clause-leads c =
     let m = c.args.self.now in
     let n = c.begin.new.self in
     let was = c.refusal_of.ensures.same in
@@ -132,8 +132,8 @@ add_started-requires-clause-can_add c =
     (start_may n q ready c.args.index step next c.requires.kind accepted names c.in_ok-acted.acted first c.in_ok-acted.ensures.begun
     c.begin.ensures.still first_is)
 
-pub returns : goal.returns
-returns c =
+pub returns-clause-leads : goal.returns-clause-leads
+returns-clause-leads c =
     let m = c.args.self.now in
     let n = c.refusal_of.new.self in
     let q = c.begin.new.self in
@@ -150,6 +150,7 @@ returns c =
     let of : SettingsValue → ℕ → List Record → WorldOutcome = λ p f l. unless_refused (record {
       beginning = record { settings = p; frames = f; members = members_of l };
       log = l;
+      added = [];
       refused = None;
       stopped = false;
       nodes = [];
@@ -157,4 +158,4 @@ returns c =
     lead_from of m n c.add_started.new.self c.add_started.result (ap (λ (x : Engine). x.settings) c.refusal_of.ensures.same)
     (ap (λ (x : Engine). x.frames) c.refusal_of.ensures.same) log (ap (λ (x : Engine). x.overlay) c.refusal_of.ensures.same)
     (start_leads n q c.add_started.new.self ready c.args.index step next c.requires.kind accepted names c.in_ok-acted.acted first
-    c.add_started.result c.begin.ensures.same c.in_ok-acted.ensures.begun c.begin.ensures.still first_is c.add_started.ensures)
+    c.add_started.result c.begin.ensures.same c.in_ok-acted.ensures.begun c.begin.ensures.still first_is c.add_started.ensures.logs)
