@@ -134,6 +134,7 @@ module _ (s other : ScenarioValue) (log : List Record) (played : IsPlayed s log)
     beginning = on.beginning ∙ sym (alike s other log log [] (sym (append-nil log)) played may).beginning;
     noted = on.noted;
     unstopped = on.unstopped;
+    unremarked = on.unremarked;
   }
 
 pub run_alike : (s other : ScenarioValue) (run : Run) → IsRunOf s run → MayTurn other run.world.log → IsRunOf other run
@@ -234,6 +235,7 @@ left_alike s other end w left may = record {
   beginning = left.beginning ∙ sym (begin_alike s other end w.log left.ended may);
   noted = left.noted;
   stopped = left.stopped;
+  unremarked = left.unremarked;
   nodes = left.nodes;
 }
 

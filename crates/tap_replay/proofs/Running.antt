@@ -86,6 +86,7 @@ starts_run s b w settings frames members begun =
         beginning = begun.beginning ∙ same;
         noted = begun.refused;
         unstopped = begun.goes_on;
+        unremarked = begun.added;
       };
       begun = sym (ap begun_count log);
       choice = subst (λ l. (count : ℕ) → place_by (chosen_in l) count ≡ None) (sym log) (λ count. refl);
@@ -184,6 +185,7 @@ module _ (s : ScenarioValue) (group : List Record) (before after : Run) (on : Wo
             beginning = so.beginning ∙ on.beginning;
             noted = so.refused other ∙ on.noted;
             unstopped = so.stopped other ∙ on.unstopped;
+            unremarked = so.added ∙ on.unremarked;
           };
           begun = chosen.begun ∙ ap begun_count (sym log);
           choice = subst (λ l. IsChoiceOf (chosen_in l) after.choice) (sym log) chosen.choice;
@@ -196,7 +198,12 @@ module _ (s : ScenarioValue) (group : List Record) (before after : Run) (on : Wo
       let short = so.memory refl in
       record {
         log = short.log;
-        world = record { beginning = so.beginning ∙ on.beginning; noted = short.refused ∙ on.noted; stopped = short.stopped };
+        world = record {
+          beginning = so.beginning ∙ on.beginning;
+          noted = short.refused ∙ on.noted;
+          stopped = short.stopped;
+          unremarked = so.added ∙ on.unremarked;
+        };
       }
 
   added : (given : Result (Unit {0}) Stop) → sent_count (before.world.log ++ group) ≤ s.frames
@@ -219,6 +226,7 @@ module _ (s : ScenarioValue) (group : List Record) (before after : Run) (on : Wo
       beginning = so.beginning ∙ on.beginning;
       noted = so.refused spent_not_short ∙ on.noted;
       stopped = so.stopped spent_not_short;
+      unremarked = so.added ∙ on.unremarked;
     };
   }
   spent (Err NoMemory) first alone over so = lacked so

@@ -129,6 +129,7 @@ pub record HasBegunStep (w v : WorldValue) (index : ℕ) (step : Step) : Type 0 
   pub log : v.log ≡ w.log ++ StepRecord index step ∷ []
   pub runs : v.stopped ≡ false
   pub beginning : v.beginning ≡ w.beginning
+  pub added : v.added ≡ w.added
 
 module _ (w v : WorldValue) (index : ℕ) (step : Step) (begun : HasBegunStep w v index step) where
   -- it is the last record, and as many frames are outstanding as before
@@ -154,6 +155,7 @@ module _ (w v : WorldValue) (index : ℕ) (step : Step) (begun : HasBegunStep w 
         stopped = λ _. answers.stopped other ∙ ap (λ o. o.stopped) goes ∙ begun.runs ∙ sym may.runs;
         memory = λ none. absurd (other none);
         beginning = answers.beginning ∙ begun.beginning;
+        added = answers.added ∙ begun.added;
       })
 
 -- ---- a step that a world has refused
@@ -179,7 +181,7 @@ module _ (w v : WorldValue) (index : ℕ) (step : Step) (refusal : Refusal) (run
       let same : refusal ≡ why = let e : failed (Refused refusal) ≡ failed (Refused why) = so.answer (refused_not_short refusal) in cc in
       record {
         first = is ∙ ap Some (sym same);
-        begun = record { log = so.log (refused_not_short refusal); runs = so.stopped (refused_not_short refusal) ∙ runs; beginning = so.beginning };
+        begun = record { log = so.log (refused_not_short refusal); runs = so.stopped (refused_not_short refusal) ∙ runs; beginning = so.beginning; added = so.added };
         noted = so.refused (refused_not_short refusal) ∙ ap Some (sym same);
       }
 
@@ -235,4 +237,5 @@ has_marked w v index step runs answers =
       log = answers.log went_not_short ∙ ap (λ o. o.log) goes;
       runs = answers.stopped went_not_short ∙ ap (λ o. o.stopped) goes ∙ runs;
       beginning = answers.beginning;
+      added = answers.added;
     }

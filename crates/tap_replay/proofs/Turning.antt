@@ -137,6 +137,7 @@ module _ (s : ScenarioValue) (before after : Run) (played : IsPlayed s before.wo
           beginning = spent.world.beginning;
           noted = spent.world.noted;
           stopped = spent.world.stopped;
+          unremarked = spent.world.unremarked;
           nodes = λ same. let wrong : Spent ≡ Done = same in absurd (cc);
         };
       }
@@ -147,6 +148,7 @@ module _ (s : ScenarioValue) (before after : Run) (played : IsPlayed s before.wo
       beginning = lacked.world.beginning;
       noted = lacked.world.noted;
       stopped = lacked.world.stopped;
+      unremarked = lacked.world.unremarked;
       nodes = λ same. let wrong : NoMemory ≡ Done = same in absurd (cc);
     };
   }

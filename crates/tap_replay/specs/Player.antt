@@ -41,14 +41,15 @@ has_stopped Done = false
 has_stopped Spent = true
 has_stopped NoMemory = true
 
--- What the run of the scenario leaves that has ended so: the log is that of such a run, with what it begins is the scenario's, no refusal is
--- left to be noted, and the world was stopped exactly if too many frames would have been sent or memory was refused. If all steps were run, the
+-- What the run of the scenario leaves that has ended so: the log is that of such a run, with what it begins is the scenario's, nothing was
+-- remarked, no refusal is left to be noted, and the world was stopped exactly if too many frames would have been sent or memory was refused. If all steps were run, the
 -- nodes of the world are those of the system that its log has come to.
 pub record IsLeft (s : ScenarioValue) (end : End) (w : WorldValue) : Type 0 where
   pub ended : HasEnded s end w.log
   pub beginning : w.beginning ≡ beginning_in s
   pub noted : w.refused ≡ None
   pub stopped : w.stopped ≡ has_stopped end
+  pub unremarked : w.added ≡ []
   pub nodes : end ≡ Done → HasNodesOfLog w
 
 -- the player has run the scenario so far

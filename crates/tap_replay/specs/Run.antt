@@ -15,12 +15,13 @@ use Rattle.tap_lawful.specs.Lawful.{IsPlayed, step_alone}
 use Rattle.tap_replay.specs.Choice.{IsChoiceOf}
 use Rattle.tap_replay.specs.declared.run.Run.{Run}
 
--- the world goes on, and its log is that of a run of the scenario which isn't over
+-- the world goes on, nothing was remarked, and its log is that of a run of the scenario which isn't over
 pub record WorldGoesOn (s : ScenarioValue) (w : WorldValue) : Type 0 where
   pub played : IsPlayed s w.log
   pub beginning : w.beginning ≡ beginning_in s
   pub noted : w.refused ≡ None
   pub unstopped : w.stopped ≡ false
+  pub unremarked : w.added ≡ []
 
 -- a run of the scenario that isn't over, with the number of the steps that were begun, and what the last one has chosen
 pub record IsRunOf (s : ScenarioValue) (run : Run) : Type 0 where
@@ -33,11 +34,12 @@ pub record HasAdded (s : ScenarioValue) (group : List Record) (before after : Ru
   pub log : after.world.log ≡ before.world.log ++ group
   pub run : IsRunOf s after
 
--- the world of the run was stopped, and no refusal is left to be noted
+-- the world of the run was stopped, nothing was remarked, and no refusal is left to be noted
 pub record WasStopped (s : ScenarioValue) (w : WorldValue) : Type 0 where
   pub beginning : w.beginning ≡ beginning_in s
   pub noted : w.refused ≡ None
   pub stopped : w.stopped ≡ true
+  pub unremarked : w.added ≡ []
 
 -- with the group too many frames would be sent, and the log says so
 pub record HasSpent (s : ScenarioValue) (group : List Record) (before after : Run) : Type 0 where

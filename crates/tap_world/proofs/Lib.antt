@@ -1,4 +1,5 @@
 mod Worlds
+mod Remarks
 mod Marks
 mod Nodes
 mod Places

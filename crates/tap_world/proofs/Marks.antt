@@ -29,7 +29,7 @@ use Rattle.tap_runs.proofs.Within.{is_group}
 use Rattle.tap_ledger.specs.Added.{CanAdd, most_ledger_frames}
 use Rattle.tap_overlay.specs.Law.{HasNodesOf}
 use Rattle.tap_overlay.specs.Overlay.{node_at}
-use Rattle.tap_engine.specs.KeptEngine.{AreKept, AreReady, room_kept, room_of_record, world_value}
+use Rattle.tap_engine.specs.KeptEngine.{AreKept, AreReady, room_kept, room_of_record, room_of_roots, world_value}
 use Rattle.tap_engine.specs.Kinds.{finishes_run, is_finished}
 use Rattle.tap_engine.specs.Growth.{left_by_outcome}
 use Rattle.tap_engine.specs.Outcome.{IsNextIndex, MayNote, adds}
@@ -44,6 +44,7 @@ use Rattle.tap_engine.proofs.Leading.{kept_group}
 use Rattle.tap_engine.proofs.NamedSteps.{step_named, unbegun_named}
 use Rattle.tap_engine.proofs.AddedGroups.{choice_may, clash, follows_within, silent_within}
 use Rattle.tap_engine.proofs.WorldLogs.{IsNoted, finish_log, mark_log, note_log, noted}
+use Rattle.tap_world.proofs.Remarks.{no_roots, refused_begins}
 
 -- ---- a choice
 
@@ -74,7 +75,7 @@ choice_stays p log index step items choice =
 
 module _ (before after : Engine) (ready : AreReady before) (index : ℕ) (step : Step) (next : IsNextIndex (seen before) index)
     (choice : is_choice step ≡ true) (grows : HasGrown before after (StepRecord index step ∷ []))
-    (overlay : after.overlay ≡ before.overlay) (two : 2 ≤ after.ledger.spare) where
+    (overlay : after.overlay ≡ before.overlay) (three : 3 ≤ after.ledger.spare) where
   mark_follows : Follows (seen before).beginning before.ledger.records (StepRecord index step ∷ [])
   mark_follows =
       let goes = on before ready in
@@ -90,7 +91,7 @@ module _ (before after : Engine) (ready : AreReady before) (index : ℕ) (step :
       let stays = choice_stays before.settings log index step [] choice in
       kept_group before after (StepRecord index step) [] ready grows mark_follows
       (subst (λ s. HasNodesOf s after.overlay) (sym stays) (subst (HasNodesOf (system_of log)) (sym overlay) (ready.kept.go_on refl).nodes))
-      (ap (λ o. o.settings) overlay) two
+      (ap (λ o. o.settings) overlay) three
       (step_named before.settings index step [] (choice_has_names before.settings step choice)
       (All-nil (λ item. step_of item ≡ None)))
       (mark_log (seen before) (seen before).nodes (on before ready) index step next choice)
@@ -205,10 +206,13 @@ module _ (before : Engine) (refused : Option Refusal) (kept : AreKept before ref
     system : system_of after.ledger.records ≡ system_of before.ledger.records
     system = ap system_of grows.log ∙ noted_system (seen before).beginning before.ledger.records index refusal is_noted
 
-    last_room : room_kept (last_of after.ledger.records) ≡ 1
+    last_room : room_kept (last_of after.ledger.records) + room_of_roots after.ledger.records after.ledger.added ≡ 1
     last_room =
-        ap (λ l. room_kept (last_of l)) grows.log ∙ ap room_kept (last_of-push before.ledger.records (Refused index refusal))
-        ∙ room_of_refused index refusal
+        let last : last_of after.ledger.records ≡ Some (Refused index refusal) =
+        ap last_of grows.log ∙ last_of-push before.ledger.records (Refused index refusal) in
+        let kept = ap room_kept last ∙ room_of_refused index refusal in
+        let roots = no_roots after.ledger.records after.ledger.added (Refused index refusal) last (refused_begins index refusal) in
+        omega (arith, kept, roots)
 
     -- no refusal is left that isn't noted
     pub noted_kept : AreKept after None false

@@ -36,6 +36,7 @@ use Rattle.tap_engine.proofs.StandingAlone.{end_system, pending_system}
 use Rattle.tap_engine.proofs.Indices.{few_steps}
 use Rattle.tap_engine.proofs.Keeping.{seen, there}
 use Rattle.tap_engine.proofs.WorldLogs.{world_log_grows}
+use Rattle.tap_world.proofs.Remarks.{beginning_begins, no_roots}
 
 -- ---- which nodes there are
 
@@ -168,7 +169,7 @@ begin_goes_on b = refl
 
 module _ (b : Beginning) (limits : IsWithinLimits b) (engine : Engine) (settings : engine.settings ≡ b.settings) (frames : engine.frames ≡ b.frames)
     (log_is : engine.ledger.records ≡ begin_record b ∷ []) (rest : IsAtRest b.settings b.members engine.overlay)
-    (one : 1 ≤ engine.ledger.spare) where
+    (added_is : engine.ledger.added ≡ []) (one : 1 ≤ engine.ledger.spare) where
   begun_course : IsCourse b engine.ledger.records
   begun_course = subst (IsCourse b) (sym log_is) (start_course b limits)
 
@@ -183,7 +184,10 @@ module _ (b : Beginning) (limits : IsWithinLimits b) (engine : Engine) (settings
   begun_goes = record {
     nodes = begun_nodes;
     ever = (course_nodes_holds b engine.ledger.records begun_course begun_going).ever;
-    room = λ unfinished. let few = ap (λ l. room_kept (last_of l)) log_is ∙ begin_room b in omega (arith, few, one);
+    room = λ unfinished.
+        let few = ap (λ l. room_kept (last_of l)) log_is ∙ begin_room b in
+        let none = no_roots engine.ledger.records engine.ledger.added (begin_record b) (ap last_of log_is) (beginning_begins b) in
+        omega (arith, few, none, one);
   }
 
   begun_is : (seen engine).beginning ≡ b
@@ -207,7 +211,7 @@ module _ (b : Beginning) (limits : IsWithinLimits b) (engine : Engine) (settings
           sym (ap (option_map running) (sym system) ∙ none_runs ((system_of engine.ledger.records).node name) (sym (begun_goes.ever name) ∙ at))
 
   pub has_begun : HasBegun b (seen engine)
-  has_begun = record { beginning = begun_is; log = log_is; refused = refl; goes_on = refl; members = begun_node }
+  has_begun = record { beginning = begun_is; log = log_is; added = added_is; refused = refl; goes_on = refl; members = begun_node }
 
   pub begun_kept : AreKept engine None false
   begun_kept = record {

@@ -35,6 +35,7 @@ stopped_answers w outcome over =
       stopped = λ other. refl;
       memory = λ none. cc;
       beginning = refl;
+      added = refl;
     })
 
 -- ---- an engine that is ready
@@ -172,14 +173,15 @@ module _ (before after : Engine) (ready : AreReady before) (outcome : WorldOutco
       ∙ ap (λ f. record { settings = before.settings; frames = f; members = members_of after.ledger.records }) leads.frames
       ∙ ap (λ m. record { settings = before.settings; frames = before.frames; members = m }) members_same
 
-  pub answers : WorldAnswersAs outcome (seen before) given (world_value after refused stopped)
-  answers = record {
+  pub answers : after.ledger.added ≡ before.ledger.added → WorldAnswersAs outcome (seen before) given (world_value after refused stopped)
+  answers added = record {
     answer = leads.answer;
     log = leads.log;
     refused = are.refused_is;
     stopped = are.stopped_is;
     memory = λ none. record { went_on = refl; stopped = are.over none; log = leads.same none; refused = are.none none };
     beginning = begins_same;
+    added = added;
   }
 
   pub keeps : AreKept after refused stopped
@@ -206,14 +208,15 @@ module _ (engine : Engine) (refused : Option Refusal) (stopped : Bool) (kept : A
           over = λ none. ap stops none;
         }
 
-    pub step_answers : WorldAnswersAs (step_outcome (world_value engine refused stopped) index step) (world_value engine refused stopped) given
+    pub step_answers : after.ledger.added ≡ engine.ledger.added
+        → WorldAnswersAs (step_outcome (world_value engine refused stopped) index step) (world_value engine refused stopped) given
         (world_value after (refusal_in given) (stops given))
-    step_answers =
+    step_answers added =
         goes_on engine refused stopped (λ w. unless_refused w index step (first_refusal w.log step)) given
         (world_value after (refusal_in given) (stops given)) runs may.noted
         (answers engine after (ready_of engine refused stopped kept may runs)
         (unless_refused (seen engine) index step (first_refusal engine.ledger.records step)) given leads
-        (step_extends (seen engine) index step (first_refusal engine.ledger.records step)) (refusal_in given) (stops given) step_seen)
+        (step_extends (seen engine) index step (first_refusal engine.ledger.records step)) (refusal_in given) (stops given) step_seen added)
 
     pub step_keeps : AreKept after (refusal_in given) (stops given)
     step_keeps =
@@ -233,14 +236,15 @@ module _ (engine : Engine) (refused : Option Refusal) (stopped : Bool) (kept : A
           over = λ none. ap stops none;
         }
 
-    pub deliver_answers : WorldAnswersAs (deliver_outcome (world_value engine refused stopped) place) (world_value engine refused stopped) given
+    pub deliver_answers : after.ledger.added ≡ engine.ledger.added
+        → WorldAnswersAs (deliver_outcome (world_value engine refused stopped) place) (world_value engine refused stopped) given
         (world_value after refused (stops given))
-    deliver_answers =
+    deliver_answers added =
         goes_on engine refused stopped (λ w. takes_number w (slice_get (outstanding w.log) place)) given
         (world_value after refused (stops given)) runs may.noted
         (answers engine after (ready_of engine refused stopped kept may runs)
         (takes_number (seen engine) (slice_get (outstanding engine.ledger.records) place)) given leads
-        (takes_extends (seen engine) (slice_get (outstanding engine.ledger.records) place)) refused (stops given) takes_seen)
+        (takes_extends (seen engine) (slice_get (outstanding engine.ledger.records) place)) refused (stops given) takes_seen added)
 
     pub deliver_keeps : AreKept after refused (stops given)
     deliver_keeps =

@@ -1,9 +1,11 @@
 // A world of one member, run by hand.
-ghost use Rattle.std.specs.Prelude.{◌≡◌, ◌≤◌, IsTrue, Some, false, length, IfOk, option_and_then};
+ghost use Rattle.std.specs.Prelude.{◌≡◌, ◌≤◌, IsTrue, Some, true, false, not, length, IfOk, option_and_then};
+ghost use Rattle.std.specs.List.{list_any};
 ghost use Rattle.tap_name.specs.Name.{IsName};
 ghost use Rattle.tap_scenario.specs.Step.{IsStep};
 ghost use Rattle.tap_log.specs.MoreRecords.{at_most_one};
 ghost use Rattle.tap_log.specs.Log.{begun_steps, last_of};
+ghost use Rattle.tap_log.specs.Reduced.{is_added};
 ghost use Rattle.tap_engine.specs.Kinds.{begun_index, begun_indices, damages, finishes_run, is_finished, last_index, observes};
 ghost use Rattle.tap_engine.specs.Outcome.{IsNextIndex, MayGoOn};
 
@@ -12,7 +14,7 @@ use std::alloc::Global;
 use std::process::Abort;
 use std::test::Fail;
 use tap_history::is_start;
-use tap_log::{Log, Record, Refusal};
+use tap_log::{Record, Refusal};
 use tap_name::{List, Name, Settings, read_name};
 use tap_scenario::{Step, read_step};
 use tap_surrogate::Tables;
@@ -101,6 +103,13 @@ fn steps_begun(records: &[Record]) -> usize
     count
 }
 
+// The index of the last step of a world, 0 if none has begun.
+fn index_of_last(world: &World) -> u32
+    ensures { result ≡ last_index world.now.log }
+{
+    last_index(world.log().as_slice())
+}
+
 // Whether so many steps have begun.
 fn have_begun(world: &World, steps: u32) -> bool
     ensures { IsTrue result → (steps ≡ length (begun_steps world.now.log)) }
@@ -116,13 +125,18 @@ fn finishes(item: &Record) -> bool
     matches!(item, Record::Finished { .. })
 }
 
-fn is_finished(log: &Log) -> bool
-    ensures { result ≡ is_finished log.now.records }
+// Whether some record says so.
+fn has_finished(records: &[Record]) -> bool
+    ensures { result ≡ list_any finishes_run records.now }
 {
-    match log.as_slice().last() {
-        Some(item) => finishes(item),
-        None => false,
-    }
+    records.iter().any(|item| finishes(item))
+}
+
+// Whether a world has finished.
+fn is_over(world: &World) -> bool
+    ensures { IsTrue (not result) → is_finished world.now.log ≡ false }
+{
+    has_finished(world.log().as_slice())
 }
 
 // Whether a world may go on.
@@ -131,7 +145,7 @@ fn may_go_on(world: &World) -> bool
 {
     match world.refused() {
         Some(_) => false,
-        None => !is_finished(world.log()),
+        None => !is_over(world),
     }
 }
 
@@ -139,14 +153,14 @@ fn may_go_on(world: &World) -> bool
 fn is_next(world: &World, index: u32) -> bool
     ensures { IsTrue result → IsNextIndex world.now index }
 {
-    last_index(world.log().as_slice()) < index && index <= 1_000_000
+    index_of_last(world) < index && index <= 1_000_000
 }
 
 // Whether the last record is the step with this index.
-fn ends_with_step(log: &Log, index: u32) -> bool
-    ensures { IsTrue result → (option_and_then begun_index (last_of log.now.records) ≡ Some index) }
+fn ends_with_step(world: &World, index: u32) -> bool
+    ensures { IsTrue result → (option_and_then begun_index (last_of world.now.log) ≡ Some index) }
 {
-    match log.as_slice().last() {
+    match world.log().as_slice().last() {
         Some(item) => is_index(begun_index(item), index),
         None => false,
     }
@@ -308,7 +322,7 @@ fn note(rt: &impl Abort, world: &mut World, index: u32) -> Result<(), Fail> {
     let Some(refusal) = world.refused() else {
         return Err("a refusal")?;
     };
-    assert!(rt; ends_with_step(world.log(), index));
+    assert!(rt; ends_with_step(world, index));
     assert_eq!(rt; world.note(index, refusal), Ok(()));
     assert_eq!(rt; world.refused(), None);
     Ok(())
@@ -334,4 +348,71 @@ fn spend(rt: &impl Abort, world: &mut World) -> Result<(), Fail> {
 fn no_more_frames_are_sent_than_may_be(rt: HostRuntime) -> Result<(), Fail> {
     let mut world = one_member(rt.alloc(), 1)?;
     spend(&rt, &mut world)
+}
+
+// ---- remarks
+
+// A remark: that a packet is made.
+#[tactic(auto, unfolding(tap_log::specs::Reduced::is_added))]
+fn packet(number: u32) -> Record
+    ensures { is_added result ≡ true }
+{
+    Record::Packet {
+        number,
+        frame: 0,
+        ack: false,
+    }
+}
+
+// A remark is added.
+fn remark(rt: &impl Abort, world: &mut World, item: Record) -> Result<(), Stop>
+    requires { is_added item ≡ true }
+{
+    assert!(rt; may_go_on(world));
+    world.remark(item)
+}
+
+// Between the groups stand remarks. They change nothing that is said of the plain records.
+fn remark_between(rt: &impl Abort, world: &mut World) -> Result<(), Fail> {
+    start(rt, world, 1, "join 01 via 00")?;
+    assert_eq!(rt; remark(rt, world, packet(0)), Ok(()));
+    assert_eq!(rt; world.place_of(0), Some(0));
+    assert_eq!(rt; deliver(rt, world), Ok(()));
+    assert_eq!(rt; remark(rt, world, packet(1)), Ok(()));
+    assert_eq!(rt; world.place_of(0), None);
+    assert_eq!(rt; world.place_of(1), Some(0));
+    assert_eq!(rt; world.place_of(9), None);
+    settle(rt, world, 2)?;
+    // The beginning, the join and its frame, the choice, eight frames that are taken, seven that are sent, that the node is core, and two
+    // remarks.
+    assert_eq!(rt; world.log().len(), 22);
+    assert!(rt;
+        matches!(
+            world.log().as_slice().get(3),
+            Some(Record::Packet { number: 0, .. })
+        )
+    );
+    finish(rt, world, 2);
+    Ok(())
+}
+
+#[test]
+fn remarks_stand_between_groups(rt: HostRuntime) -> Result<(), Fail> {
+    let mut world = one_member(rt.alloc(), 100)?;
+    remark_between(&rt, &mut world)
+}
+
+// After `Spent` no remark is added.
+fn remark_after_spent(rt: &impl Abort, world: &mut World) -> Result<(), Fail> {
+    start(rt, world, 1, "join 01 via 00")?;
+    assert_eq!(rt; deliver(rt, world), Err(Stop::Spent));
+    assert_eq!(rt; remark(rt, world, packet(0)), Err(Stop::Ended));
+    assert_eq!(rt; world.log().len(), 4);
+    Ok(())
+}
+
+#[test]
+fn no_remark_is_added_to_a_world_that_was_stopped(rt: HostRuntime) -> Result<(), Fail> {
+    let mut world = one_member(rt.alloc(), 1)?;
+    remark_after_spent(&rt, &mut world)
 }

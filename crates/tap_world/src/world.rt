@@ -1,7 +1,9 @@
-ghost use Rattle.std.specs.Prelude.{◌≡◌, ◌≢◌, ◌≤◌, ◌+◌, ◌↔◌, true, false, nat_eq, length, position, option_copied, IfOk, IfSome, IsNone, Err};
+ghost use Rattle.std.specs.Prelude.{◌≡◌, ◌≢◌, ◌≤◌, ◌+◌, ◌↔◌, [], true, false, nat_eq, length, position, option_copied, IfOk, IfSome, IsNone, Err};
 ghost use Rattle.tap_name.specs.Names.{has_name};
 ghost use Rattle.tap_log.specs.Counts.{ticket_count};
 ghost use Rattle.tap_log.specs.Log.{begun_steps};
+ghost use Rattle.tap_log.specs.Reduced.{is_added, reduced};
+ghost use Rattle.tap_ledger.specs.Woven.{woven};
 ghost use Rattle.tap_scenario.specs.Step.{IsStep};
 ghost use Rattle.tap_history.specs.GroupLaws.{IsNumbered};
 ghost use Rattle.tap_history.specs.Moments.{is_still, outstanding};
@@ -13,7 +15,7 @@ ghost use Rattle.tap_readable.specs.Range.{IsInRange};
 ghost use Rattle.tap_overlay.specs.Overlay.{HasNameAndSettings};
 ghost use Rattle.tap_engine.specs.WorldHeadline.{WorldHasHeadline};
 ghost use Rattle.tap_engine.specs.Holders.{HoldersAreExactAtRest};
-ghost use Rattle.tap_engine.specs.Kinds.{damages, most_index, observes};
+ghost use Rattle.tap_engine.specs.Kinds.{awaits_roots, damages, most_index, observes, tells_roots};
 ghost use Rattle.tap_engine.specs.Outcome.{refusal_in, stops};
 ghost use Rattle.tap_engine.specs.Places.{last_place};
 
@@ -21,7 +23,7 @@ use std::alloc::Global;
 use std::marker::Model;
 use tap_engine::{Engine, NoMemory, Stop};
 use tap_ledger::Ledger;
-use tap_log::{Log, Refusal};
+use tap_log::{Log, Record, Refusal};
 use tap_name::{List, Name, Settings};
 use tap_node::{Node, NodeStatus};
 use tap_overlay::Overlay;
@@ -32,11 +34,12 @@ use tap_table::Table;
 /// The world of a run: its nodes, each found by its name, the frames that are outstanding, and the log. Each call adds one group
 /// to the log, or says why it adds none.
 ///
-/// Contracts see with what the log begins, the log, the refusal that isn't noted yet, whether an earlier call answered `Spent`
-/// or `NoMemory`, and the nodes with their names, ascending by name.
+/// A carrier adds remarks to the log: records that it alone tells. Contracts see with what the log begins; the log of plain records, which
+/// are all others; the remarks, each with how many plain records stand before it; the refusal that isn't noted yet; whether an earlier
+/// call answered `Spent` or `NoMemory`; and the nodes with their names, ascending by name.
 ///
 /// Until it was stopped so, its nodes are those of the system that its log has come to, so its log says what they have done; and
-/// there is room in the log for its last record, and after a step for a refusal.
+/// there is room in the log for its last record, after a step for a refusal, and after a step that asks for roots for these.
 ///
 /// Rule: docs/FORMATS.md, "The course of a run".
 #[derive(Drop)]
@@ -60,7 +63,7 @@ impl Model for World {
 impl World {
     ghost use Rattle.tap_runs.specs.Named.{HaveNames};
     ghost use Rattle.tap_runs.specs.Beginning.{IsWithinLimits};
-    ghost use Rattle.tap_engine.specs.Outcome.{IsNextIndex, MayGoOn, MayNote, WorldAnswersAs, deliver_outcome, finish_outcome, mark_outcome, note_outcome, step_outcome};
+    ghost use Rattle.tap_engine.specs.Outcome.{IsNextIndex, MayGoOn, MayNote, Remarks, WorldAnswersAs, deliver_outcome, finish_outcome, mark_outcome, note_outcome, step_outcome};
     ghost use Rattle.tap_engine.specs.WorldLog.{IsWorldLog};
     ghost use Rattle.tap_engine.specs.World.{HasBegun, HasNodesOfLog, node_of, nodes_running};
 
@@ -271,6 +274,29 @@ impl World {
         Ok(())
     }
 
+    /// A remark is added at the end of the whole log: a record that only a carrier tells. The log of plain records stays, and so do the nodes.
+    ///
+    /// `NoMemory` adds nothing. It doesn't come for roots right after the step that asks for them: their room was made with the step.
+    /// `Ended` comes exactly if an earlier call answered `Spent` or `NoMemory`, and changes nothing. No other refusal comes.
+    ///
+    /// Rule: docs/FORMATS.md, "Groups and moments".
+    pub fn remark(&mut self, item: Record) -> Result<(), Stop>
+        requires goes_on { MayGoOn self.old }
+        requires kind { is_added item ≡ true }
+        ensures remarks { Remarks item self.old result self.new }
+        ensures roots { tells_roots item ≡ true → awaits_roots self.old.log self.old.added ≡ true → result ≢ Err Stop.NoMemory }
+        ensures headline { WorldHasHeadline self.new }
+    {
+        if self.stopped {
+            return Err(Stop::Ended);
+        }
+        let Ok(()) = self.engine.remark(item) else {
+            self.stopped = true;
+            return Err(Stop::NoMemory);
+        };
+        Ok(())
+    }
+
     /// The refusal that a `start`, `observe` or `garble` has answered and that isn't noted yet. Until it is, the last group isn't
     /// whole.
     ///
@@ -281,13 +307,17 @@ impl World {
         self.refused
     }
 
-    /// The log. Up to its last moment it is the course of a run, and what stands after that is a step whose refusal isn't noted
+    /// The whole log: the plain records, and each remark after as many of them as it says.
+    ///
+    /// Up to its last moment the log of plain records is the course of a run, and what stands after that is a step whose refusal isn't noted
     /// yet, or how the run has ended. What its steps start or observe is named by names of the settings. Lookups are numbered from 1, in
     /// their order, up to 1,000,000 at most.
     ///
     /// Rule: docs/FORMATS.md, "The course of a run".
     pub fn log(&self) -> &Log
-        ensures records { result.now.records ≡ self.now.log }
+        ensures records { result.now.records ≡ woven self.now.log self.now.added }
+        ensures reduced { reduced result.now.records ≡ self.now.log }
+        ensures unremarked { self.now.added ≡ [] → result.now.records ≡ self.now.log }
         ensures course { IsWorldLog self.now }
         ensures named { HaveNames self.now.beginning.settings self.now.log }
         ensures numbered { IsNumbered self.now.log }

@@ -9,4 +9,4 @@ pub note-requires : goal.note-requires
 note-requires g c =
     let ends : c.ends_with_step.result ≡ true = search in
     may_note c.args.index c.in-Some.refusal c.args.world.now
-    (ap (λ l. option_and_then begun_index (last_of l)) (sym c.log.ensures.records) ∙ c.ends_with_step.ensures ends) (sym c.in-Some.ensures)
+    (c.ends_with_step.ensures ends) (sym c.in-Some.ensures)

@@ -37,5 +37,6 @@ returns-clause-left c =
       beginning = answers.beginning ∙ on.beginning;
       noted = answers.refused c.finish.ensures.memory ∙ ap (λ o. o.refused) goes ∙ on.noted;
       stopped = stopped;
+      unremarked = answers.added ∙ on.unremarked;
       nodes = λ _. c.finish.ensures.state stopped;
     }

@@ -15,7 +15,7 @@ invariant_of-self c =
     let may = rw (← c.self.view_is) at c.requires in
     rw c.stops-self-inside.ensures
     (deliver_keeps w.engine w.refused w.stopped c.self.invariant may c.if-self.false c.deliver-answer.new.self c.deliver-answer.result c.args.place
-    c.deliver-answer.ensures)
+    c.deliver-answer.ensures.leads)
 
 pub returns-clause-answers : goal.returns-clause-answers
 returns-clause-answers c =
@@ -23,17 +23,17 @@ returns-clause-answers c =
     let may = rw (← c.self.view_is) at c.requires in
     rw (c.stops-self-inside.ensures, ← c.self.view_is)
     (deliver_answers w.engine w.refused w.stopped c.self.invariant may c.if-self.false c.deliver-answer.new.self c.deliver-answer.result c.args.place
-    c.deliver-answer.ensures)
+    c.deliver-answer.ensures.leads c.deliver-answer.ensures.added)
 
 pub returns-clause-unchanged : goal.returns-clause-unchanged
 returns-clause-unchanged c = λ refusal is.
-    ap (λ (o : OverlayValue). o.nodes) (c.deliver-answer.ensures.nodes refusal is) ∙ ap (λ (x : WorldValue). x.nodes) c.self.view_is
+    ap (λ (o : OverlayValue). o.nodes) (c.deliver-answer.ensures.leads.nodes refusal is) ∙ ap (λ (x : WorldValue). x.nodes) c.self.view_is
 
 pub returns-clause-ended : goal.returns-clause-ended
 returns-clause-ended c = λ is.
     let m = c.self.inside.engine in
     absurd (takes_unended m c.deliver-answer.new.self c.deliver-answer.result (slice_get (outstanding m.ledger.records) c.args.place)
-    c.deliver-answer.ensures is)
+    c.deliver-answer.ensures.leads is)
 
 pub returns-then-self-clause-headline : goal.returns-then-self-clause-headline
 returns-then-self-clause-headline c =
@@ -53,7 +53,7 @@ returns-clause-headline c =
     let given = c.deliver-answer.result in
     kept_headline c.deliver-answer.new.self w.refused (stops given)
     (deliver_keeps w.engine w.refused w.stopped c.self.invariant may c.if-self.false c.deliver-answer.new.self given c.args.place
-    c.deliver-answer.ensures)
+    c.deliver-answer.ensures.leads)
 
 pub returns-clause-holders : goal.returns-clause-holders
 returns-clause-holders c =
@@ -62,4 +62,4 @@ returns-clause-holders c =
     let given = c.deliver-answer.result in
     kept_holders c.deliver-answer.new.self w.refused (stops given)
     (deliver_keeps w.engine w.refused w.stopped c.self.invariant may c.if-self.false c.deliver-answer.new.self given c.args.place
-    c.deliver-answer.ensures)
+    c.deliver-answer.ensures.leads)

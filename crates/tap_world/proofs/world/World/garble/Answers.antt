@@ -23,7 +23,7 @@ returns-clause-answers c =
     let may = rw (← c.self.view_is) at c.requires.goes_on in
     rw (c.refusal_in-self-inside.ensures, c.stops-self-inside.ensures, ← c.self.view_is)
     (step_answers w.engine w.refused w.stopped c.self.invariant may c.if-self.false c.garble-answer.new.self c.garble-answer.result c.args.index c.args.step.now
-    c.garble-answer.ensures.leads)
+    c.garble-answer.ensures.leads c.garble-answer.ensures.added)
 
 pub returns-clause-unspent : goal.returns-clause-unspent
 returns-clause-unspent c =

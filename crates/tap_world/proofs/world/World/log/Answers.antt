@@ -1,5 +1,7 @@
-use Rattle.std.proofs.Common.{subst, ◌+◌, ◌≤◌}
+use Rattle.std.proofs.Common.{◌≡◌, ◌∙◌, [], List, ap, subst, ◌+◌, ◌≤◌}
 use Rattle.tap_log.specs.Counts.{ticket_count}
+use Rattle.tap_ledger.specs.Woven.{woven}
+use Rattle.tap_ledger.proofs.Woven.{woven_nothing}
 use Rattle.tap_engine.specs.WorldHeadline.{WorldHasHeadline}
 use Rattle.tap_engine.specs.KeptEngine.{world_value}
 use Rattle.tap_engine.specs.Kinds.{most_index}
@@ -19,3 +21,10 @@ returns-clause-headline c =
     let w = c.self.inside in
     subst WorldHasHeadline c.self.view_is
     (kept_headline w.engine w.refused w.stopped c.self.invariant)
+
+pub returns-clause-unremarked : goal.returns-clause-unremarked
+returns-clause-unremarked c = λ none.
+    let w = c.self.inside in
+    let nothing : w.engine.ledger.added ≡ [] = ap (λ (v : WorldValue). v.added) c.self.view_is ∙ none in
+    c.log.ensures.records ∙ ap (woven w.engine.ledger.records) nothing ∙ woven_nothing w.engine.ledger.records
+    ∙ ap (λ (v : WorldValue). v.log) c.self.view_is

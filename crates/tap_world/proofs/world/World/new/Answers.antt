@@ -10,7 +10,7 @@ pub invariant_of-result : goal.invariant_of-result
 invariant_of-result c =
     let b : Beginning = record { settings = c.args.settings.now; frames = c.args.frames; members = c.args.members.now } in
     begun_kept b c.requires _ refl refl (c.in_ok-reserve.ensures.records ∙ ap (λ (l : LedgerValue). l.records) c.in_ok-ledger.ensures)
-    c.in_ok-overlay.ensures (omega (arith, c.in_ok-reserve.ensures.ok))
+    c.in_ok-overlay.ensures (c.in_ok-reserve.ensures.added ∙ ap (λ (l : LedgerValue). l.added) c.in_ok-ledger.ensures) (omega (arith, c.in_ok-reserve.ensures.ok))
 
 pub returns-clause-begun : goal.returns-clause-begun
 returns-clause-begun c =
@@ -23,7 +23,7 @@ returns-clause-begun c =
       overlay = c.in_ok-overlay.overlay;
     } in
     has_begun b c.requires engine refl refl (c.in_ok-reserve.ensures.records ∙ ap (λ (l : LedgerValue). l.records) c.in_ok-ledger.ensures)
-    c.in_ok-overlay.ensures (omega (arith, c.in_ok-reserve.ensures.ok))
+    c.in_ok-overlay.ensures (c.in_ok-reserve.ensures.added ∙ ap (λ (l : LedgerValue). l.added) c.in_ok-ledger.ensures) (omega (arith, c.in_ok-reserve.ensures.ok))
 
 pub returns-clause-headline : goal.returns-clause-headline
 returns-clause-headline c =
@@ -37,4 +37,4 @@ returns-clause-headline c =
     } in
     kept_headline engine None false
     (begun_kept b c.requires engine refl refl (c.in_ok-reserve.ensures.records ∙ ap (λ (l : LedgerValue). l.records) c.in_ok-ledger.ensures)
-    c.in_ok-overlay.ensures (omega (arith, c.in_ok-reserve.ensures.ok)))
+    c.in_ok-overlay.ensures (c.in_ok-reserve.ensures.added ∙ ap (λ (l : LedgerValue). l.added) c.in_ok-ledger.ensures) (omega (arith, c.in_ok-reserve.ensures.ok)))

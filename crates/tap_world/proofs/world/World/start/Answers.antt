@@ -14,7 +14,7 @@ invariant_of-self c =
     let may = rw (← c.self.view_is) at c.requires.goes_on in
     rw (c.refusal_in-self-inside.ensures, c.stops-self-inside.ensures)
     (step_keeps w.engine w.refused w.stopped c.self.invariant may c.if-self.false c.start-answer.new.self c.start-answer.result c.args.index c.args.step.now
-    c.start-answer.ensures)
+    c.start-answer.ensures.leads)
 
 pub returns-clause-answers : goal.returns-clause-answers
 returns-clause-answers c =
@@ -22,17 +22,17 @@ returns-clause-answers c =
     let may = rw (← c.self.view_is) at c.requires.goes_on in
     rw (c.refusal_in-self-inside.ensures, c.stops-self-inside.ensures, ← c.self.view_is)
     (step_answers w.engine w.refused w.stopped c.self.invariant may c.if-self.false c.start-answer.new.self c.start-answer.result c.args.index c.args.step.now
-    c.start-answer.ensures)
+    c.start-answer.ensures.leads c.start-answer.ensures.added)
 
 pub returns-clause-unchanged : goal.returns-clause-unchanged
 returns-clause-unchanged c = λ refusal is.
-    ap (λ (o : OverlayValue). o.nodes) (c.start-answer.ensures.nodes refusal is) ∙ ap (λ (x : WorldValue). x.nodes) c.self.view_is
+    ap (λ (o : OverlayValue). o.nodes) (c.start-answer.ensures.leads.nodes refusal is) ∙ ap (λ (x : WorldValue). x.nodes) c.self.view_is
 
 pub returns-clause-ended : goal.returns-clause-ended
 returns-clause-ended c = λ is.
     let m = c.self.inside.engine in
     absurd (step_unended m c.start-answer.new.self c.start-answer.result c.args.index c.args.step.now
-    (first_refusal m.ledger.records c.args.step.now) c.start-answer.ensures is)
+    (first_refusal m.ledger.records c.args.step.now) c.start-answer.ensures.leads is)
 
 pub returns-then-self-clause-headline : goal.returns-then-self-clause-headline
 returns-then-self-clause-headline c =
@@ -47,4 +47,4 @@ returns-clause-headline c =
     let given = c.start-answer.result in
     kept_headline c.start-answer.new.self (refusal_in given) (stops given)
     (step_keeps w.engine w.refused w.stopped c.self.invariant may c.if-self.false c.start-answer.new.self given c.args.index c.args.step.now
-    c.start-answer.ensures)
+    c.start-answer.ensures.leads)
