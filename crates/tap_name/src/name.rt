@@ -109,6 +109,14 @@ impl Name {
         self.places[at]
     }
 
+    /// The byte that the digit at a place, from 0, is printed as: `0` to `9`, then `a` to `f`.
+    pub fn text_byte(&self, at: usize) -> u8
+        requires { at < length self.now }
+        ensures { result ≡ text_of_digit (slice_index self.now at) }
+    {
+        text_of_digit(self.digit(at))
+    }
+
     // The first digits, as many as names usually have, as one number in which the first digit is worth the most. Digits that
     // the name doesn't have count as 0.
     #[inline(always)]

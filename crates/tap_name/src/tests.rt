@@ -50,7 +50,7 @@ fn tells_digits_and_slots(rt: HostRuntime) -> Result<(), Fail> {
     assert_eq!(rt; a.lcp(&b), 1);
     assert_eq!(rt; a.len(), 3);
     assert!(rt; a.len() > 2 && b < a);
-    assert_eq!(rt; (a.digit(1), text_of_digit(a.digit(1))), (3, b'3'));
+    assert_eq!(rt; (a.digit(1), a.text_byte(1)), (3, b'3'));
     assert!(rt; a.len() == b.len());
     assert_eq!(rt; slot_of(&a, &b), Some(Slot { level: 1, digit: 1 }));
     assert_eq!(rt; slot_of(&a, &a), None);
@@ -65,7 +65,7 @@ fn prints_letters_and_refuses_settings(rt: HostRuntime) -> Result<(), Fail> {
     let settings = Settings::new(16, 1, 4).ok_or("settings")?;
     let name = read_name(&settings, b"f").map_err(|_| "a name")?;
     assert!(rt; name.len() == 1);
-    assert_eq!(rt; (name.digit(0), text_of_digit(name.digit(0))), (15, b'f'));
+    assert_eq!(rt; (name.digit(0), name.text_byte(0)), (15, b'f'));
     assert_eq!(rt; text_of_digit(9), b'9');
     assert_eq!(rt;
         (are_word_bytes(b"node7"), are_word_bytes(b"node_7")),
