@@ -2,7 +2,6 @@ ghost use Rattle.std.specs.Prelude.{Some};
 ghost use Rattle.std.specs.Fmt.{styled_text};
 ghost use Rattle.tap_name.specs.Name.{text_of_name};
 
-use crate::list::NoMemory;
 use crate::name::{Name, NameFault, text_of_digit};
 use std::error::Error;
 use std::{fmt, str};
@@ -33,11 +32,3 @@ impl fmt::Display for NameFault {
 }
 
 impl Error for NameFault {}
-
-impl fmt::Display for NoMemory {
-    fn fmt<W: fmt::Write>(&self, f: &mut fmt::Formatter<W>) -> fmt::Result {
-        f.write_str("no memory")
-    }
-}
-
-impl Error for NoMemory {}

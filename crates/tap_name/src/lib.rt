@@ -3,6 +3,7 @@
 
 mod display;
 mod list;
+mod memory;
 mod name;
 mod settings;
 mod slot;
@@ -10,7 +11,8 @@ mod slot;
 mod tests;
 mod word;
 
-pub use list::{List, NoMemory};
+pub use list::List;
+pub use memory::NoMemory;
 pub use name::{Name, NameFault, USUAL_DIGITS, read_name, text_of_digit};
 pub use settings::Settings;
 pub use slot::{Offered, Slot, next_cyclic, slot_of};

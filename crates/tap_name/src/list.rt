@@ -1,25 +1,8 @@
 ghost use Rattle.std.specs.Prelude.{◌≡◌, ◌==◌, ◌<◌, [], ◌∷◌, ◌++◌, length, OnOk, OnErr, slice_get, Some};
 
-use std::alloc::{AllocError, AllocFailed, Global};
+use crate::memory::NoMemory;
+use std::alloc::Global;
 use std::marker::Model;
-
-/// Memory was refused.
-///
-/// Rule: docs/MAP.md, "How the sources are written".
-#[derive(Clone, Copy, Debug, PartialEq, Eq)]
-pub struct NoMemory;
-
-impl From<AllocError> for NoMemory {
-    fn from(_: AllocError) -> NoMemory {
-        NoMemory
-    }
-}
-
-impl<T: Drop> From<AllocFailed<T>> for NoMemory {
-    fn from(_: AllocFailed<T>) -> NoMemory {
-        NoMemory
-    }
-}
 
 /// Plain values in order, which contracts see as a list.
 ///
