@@ -1,6 +1,7 @@
 -- whole frames: read where they were written, and written as they are read
 -- Cited above: head_reads_back, reads_back
-use Rattle.std.proofs.Common.{◌≡◌, ◌<◌, ◌≤◌, ◌++◌, ◌+◌, ◌-◌, ℕ, Bool, true, false, cond, List, [], ◌∷◌, length, drop, All, Result, Ok, Err, IsOk, IsTrue, arith, refl, ap, sym, subst, ◌∙◌, append_assoc, length-append}
+use Rattle.std.proofs.Common.{◌≡◌, ◌<◌, ◌≤◌, ◌++◌, ◌+◌, ◌-◌, ℕ, Bool, true, false, cond, List, [], ◌∷◌, length, drop, All, Result, Ok, Err, IsOk, arith, refl, ap, sym, subst, ◌∙◌, append_assoc, length-append}
+use Rattle.std.specs.Prelude.{IsOkAnd}
 use Rattle.byteorder.specs.Endian.{big_bytes}
 use Rattle.byteorder.specs.Numbers.{length-bytes_high_first}
 use Rattle.tap_name.specs.Settings.{SettingsValue, AreWithinLimits}
@@ -17,9 +18,9 @@ use Rattle.tap_wire.specs.declared.kind.Kind.{Kind}
 use Rattle.tap_wire.specs.declared.frame.Body.{Body}
 use Rattle.tap_wire.specs.declared.opening.Opening.{Opening}
 use Rattle.tap_wire.specs.Fault.{fault_of_head, fault_of_body}
-use Rattle.tap_wire.specs.Kind.{code_of, kind_of, has_list}
+use Rattle.tap_wire.specs.Kind.{code_of, kind_of}
 use Rattle.tap_wire.specs.Fields.{◌>>=◌, number_at}
-use Rattle.tap_wire.specs.Reading.{head_of_frame, head_of, opening_of, body_at, in_frame, frame_of, BodyFails, WantsMemory}
+use Rattle.tap_wire.specs.Reading.{head_of_frame, head_of, opening_of, body_at, in_frame, frame_of, BodyFails}
 use Rattle.tap_wire.specs.Spelling.{body_bytes, spelling, IsFrame, IsTyped}
 use Rattle.tap_wire.specs.Layout.{is_length, is_long, version_of, head_len, body_start, body_len}
 use Rattle.tap_wire.proofs.ReadingSteps.{bind_ok, bind_is}
@@ -275,24 +276,24 @@ head_whole p bytes o frame limits all opened read =
 pub only_fault : (x y : WireFault) → ◌≡◌ {A = Result Frame WireFault} (Err x) (Err y) → x ≡ y
 only_fault x y e = cc
 
--- the frame whose body is read has a list if its kind has one
-listed : (p : SettingsValue) (bytes : List ℕ) (o : Opening) (read : Result Body Broken) → AreWithinLimits p → All (λ b. b < 256) bytes
-    → opening_of p bytes ≡ Ok o → body_at p o.kind (body_start p) bytes ≡ read → IsOk read → IsTrue (has_list o.kind)
-    → WantsMemory (frame_of p bytes)
-listed p bytes o (Err broken) limits all opened e ok list = absurd cc
-listed p bytes o (Ok body) limits all opened e ok list =
+-- the frame whose body is read is of the kind that its head says
+of_its_kind : (Q : Kind → Type 0) (p : SettingsValue) (bytes : List ℕ) (o : Opening) (read : Result Body Broken) → AreWithinLimits p
+    → All (λ b. b < 256) bytes → opening_of p bytes ≡ Ok o → body_at p o.kind (body_start p) bytes ≡ read → IsOk read → Q o.kind
+    → IsOkAnd (frame_of p bytes) (λ frame. Q (kind_of frame.body))
+of_its_kind Q p bytes o (Err broken) limits all opened e ok holds = absurd cc
+of_its_kind Q p bytes o (Ok body) limits all opened e ok holds =
     let h = opening_parts p bytes o opened in
     let long : length bytes - body_start p ≡ number_at 2 2 bytes = omega (arith, h.whole) in
     let taken = body_taken p o.kind (body_start p) bytes body all (omega (arith, h.whole)) (ap (is_length p o.kind) long ∙ h.possible) e in
     let read = frame_read p bytes o body opened e in
-    let Q : Kind → Type 0 = λ kind. IsTrue (has_list kind) in
-    subst WantsMemory (sym read) (subst Q (sym taken.same) list)
+    let Of : Result Frame WireFault → Type 0 = λ found. IsOkAnd found (λ frame. Q (kind_of frame.body)) in
+    subst Of (sym read) (subst Q (sym taken.same) holds)
 
--- want of memory comes in place of a frame with a list alone
-pub wanting : (p : SettingsValue) (bytes : List ℕ) (o : Opening) (fault : BodyFault) → AreWithinLimits p → All (λ b. b < 256) bytes
-    → opening_of p bytes ≡ Ok o → BodyFails fault (body_at p o.kind (body_start p) bytes)
-    → (◌≡◌ {A = Result Body BodyFault} (Err fault) (Err faults.NoMemory) → IsTrue (has_list o.kind)) → fault_of_body fault ≡ NoMemory
-    → WantsMemory (frame_of p bytes)
-wanting p bytes o (faults.Field broken) limits all opened fails list want = absurd cc
-wanting p bytes o faults.NoMemory limits all opened fails list want =
-    listed p bytes o (body_at p o.kind (body_start p) bytes) limits all opened refl fails (list refl)
+-- want of memory comes in place of a frame, and what it says of the head's kind holds of that frame's
+pub wanting : (Q : Kind → Type 0) (p : SettingsValue) (bytes : List ℕ) (o : Opening) (fault : BodyFault) → AreWithinLimits p
+    → All (λ b. b < 256) bytes → opening_of p bytes ≡ Ok o → BodyFails fault (body_at p o.kind (body_start p) bytes)
+    → (◌≡◌ {A = Result Body BodyFault} (Err fault) (Err faults.NoMemory) → Q o.kind) → fault_of_body fault ≡ NoMemory
+    → IsOkAnd (frame_of p bytes) (λ frame. Q (kind_of frame.body))
+wanting Q p bytes o (faults.Field broken) limits all opened fails holds want = absurd cc
+wanting Q p bytes o faults.NoMemory limits all opened fails holds want =
+    of_its_kind Q p bytes o (body_at p o.kind (body_start p) bytes) limits all opened refl fails (holds refl)

@@ -1,4 +1,4 @@
-ghost use Rattle.std.specs.Prelude.{◌≡◌, ◌≤◌, IfOk, take};
+ghost use Rattle.std.specs.Prelude.{◌≡◌, ◌≤◌, IsOk, IfOk, length, take};
 
 use crate::memory::NoMemory;
 use smallvec::SmallVec;
@@ -26,11 +26,12 @@ impl Model for Bytes {
 }
 
 impl Bytes {
-    /// A list with the same bytes. It wants memory for them.
+    /// A list with the same bytes. It wants memory only for more of them than stand in the value itself, which are 56.
     ///
     /// Rule: docs/FORMATS.md, "Frames".
     pub fn copy_of(alloc: Global, bytes: &[u8]) -> Result<Bytes, NoMemory>
-        ensures { IfOk result (λ b. b ≡ bytes.now) }
+        ensures value { IfOk result (λ b. b ≡ bytes.now) }
+        ensures few { length bytes.now ≤ MOST_IN_PLACE → IsOk result }
     {
         Ok(Bytes {
             bytes: SmallVec::from_slice(alloc, bytes)?,

@@ -1,4 +1,4 @@
-ghost use Rattle.std.specs.Prelude.{◌≡◌, ◌≢◌, ◌==◌, ◌+◌, ◌-◌, ◌≤◌, ◌<◌, ◌↔◌, ◌&&◌, not, length, take, drop, slice_index, All, IsTrue, IfOk, OnOk, IfErr, IfSome, Ok, Err};
+ghost use Rattle.std.specs.Prelude.{◌≡◌, ◌≢◌, ◌==◌, ◌+◌, ◌-◌, ◌≤◌, ◌<◌, ◌↔◌, ◌&&◌, not, length, take, drop, slice_index, All, IsTrue, IsOkAnd, IfOk, OnOk, IfErr, IfSome, Ok, Err};
 ghost use Rattle.std.specs.Bool.{OnTrue};
 ghost use Rattle.tap_name.specs.Name.{IsName};
 ghost use Rattle.tap_name.specs.Settings.{AreWithinLimits};
@@ -7,6 +7,7 @@ ghost use Rattle.tap_wire.specs.declared.frame.Frame.{Frame};
 ghost use Rattle.tap_wire.specs.declared.fault.HeadFault.TheVariants.{BadDigit};
 ghost use Rattle.tap_wire.specs.Fields.{number_at, digits_at};
 ghost use Rattle.tap_wire.specs.Fault.{fault_of_head};
+ghost use Rattle.tap_wire.specs.Kind.{kind_of};
 ghost use Rattle.tap_wire.specs.Layout.{is_long, head_len, body_start, is_length};
 ghost use Rattle.tap_wire.specs.Reading.{names_at, sized, opening_of, head_of_frame, head_of, frame_of, WantsMemory};
 ghost use Rattle.tap_wire.specs.Names.{sender_in, receiver_in, HeadGives};
@@ -213,8 +214,8 @@ pub fn decode_head(settings: &Settings, bytes: &[u8]) -> Result<Head, HeadFault>
     })
 }
 
-/// The frame that the bytes spell, all of them, or the first refusal. Want of memory may come in place of a frame with slots,
-/// links or letters alone, which are a Tell, a Hello and a Cast, and never in place of a refusal.
+/// The frame that the bytes spell, all of them, or the first refusal. Want of memory may come in place of a frame with slots or
+/// links alone, which are a Tell and a Hello, and never in place of a refusal. The letters of a Cast stand in the frame itself.
 ///
 /// Rule: docs/FORMATS.md, "Frames".
 pub fn decode(alloc: Global, settings: &Settings, bytes: &[u8]) -> Result<Frame, WireFault>
@@ -222,6 +223,8 @@ pub fn decode(alloc: Global, settings: &Settings, bytes: &[u8]) -> Result<Frame,
     ensures exact { result ≢ Err WireFault.NoMemory → result ≡ frame_of settings.now bytes.now }
     // Want of memory comes in place of a frame with a list alone.
     ensures memory { result ≡ Err WireFault.NoMemory → WantsMemory (frame_of settings.now bytes.now) }
+    // It never comes in place of a Cast.
+    ensures letters { result ≡ Err WireFault.NoMemory → IsOkAnd (frame_of settings.now bytes.now) (λ frame. kind_of frame.body ≢ Kind.Cast) }
     // The bytes are the spelling of what is read, which keeps the rules.
     ensures found { IfOk result (λ frame. IsFrame settings.now frame × (bytes.now ≡ spelling settings.now frame)) }
     // A frame that the bytes are the spelling of is read.

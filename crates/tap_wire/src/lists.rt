@@ -1,4 +1,4 @@
-ghost use Rattle.std.specs.Prelude.{◌≡◌, ◌+◌, ◌*◌, ◌-◌, ◌/◌, ◌≤◌, ◌<◌, length, take, drop, All, None, Ok, Err, IfOk, OnOk, IfErr};
+ghost use Rattle.std.specs.Prelude.{◌≡◌, ◌+◌, ◌*◌, ◌-◌, ◌/◌, ◌≤◌, ◌<◌, ◌≢◌, length, take, drop, All, None, Ok, Err, IsOk, IfOk, OnOk, IfErr};
 ghost use Rattle.std.specs.Bool.{OnTrue};
 ghost use Rattle.std.specs.Option.{option_copied};
 ghost use Rattle.std.specs.Ordering.{nat_cmp, is_lt};
@@ -8,12 +8,12 @@ ghost use Rattle.tap_name.specs.declared.slot.Slot.{Slot};
 ghost use Rattle.tap_name.specs.declared.slot.Offered.{Offered};
 ghost use Rattle.tap_wire.specs.Fields.{watch_slot_at, slots_at, hello_link_at, hello_links_at, word_at, is_next_level, is_next_digit, is_next_name};
 ghost use Rattle.tap_wire.specs.Layout.{slot_len, link_len};
-ghost use Rattle.tap_wire.specs.Reading.{BodyFails, BodyGives};
+ghost use Rattle.tap_wire.specs.Reading.{BodyGives};
 
 use crate::bytes::Bytes;
 use crate::fault::{BodyFault, Broken};
 use crate::fields::{are_below, bad_digit_unless, digits_at, flag_at, name_of};
-use crate::layout::{SLOT_LEN, link_len};
+use crate::layout::{MOST_LETTERS, SLOT_LEN, link_len};
 use std::alloc::Global;
 use tap_name::{List, Offered, Settings, Slot, are_word_bytes};
 use tap_watch::Watch;
@@ -60,27 +60,28 @@ fn watch_slot_at(
     Ok(Slot { level, digit })
 }
 
-// Why slots aren't read if memory was refused: the first field that breaks its rule, and else want of memory.
-fn slots_fault(
+// The first field of slots that breaks its rule, if one does: it is looked for if memory for the slots was refused.
+fn check_slots(
     settings: &Settings,
     bytes: &[u8],
     start: usize,
     prefix: u8,
     count: usize,
-) -> BodyFault
+) -> Result<(), Broken>
     requires { start + SLOT_LEN * count ≤ length bytes.now }
-    ensures { BodyFails result (slots_at settings.now prefix count None start bytes.now) }
+    ensures ok { OnOk result (IsOk (slots_at settings.now prefix count None start bytes.now)) }
+    ensures err { IfErr result (λ broken. slots_at settings.now prefix count None start bytes.now ≡ Err broken) }
 {
     let mut before = None;
     let mut place = start;
     for _ in 0..count {
         match watch_slot_at(settings, bytes, place, prefix, before) {
             Ok(slot) => before = Some(slot),
-            Err(broken) => return BodyFault::Field(broken),
+            Err(broken) => return Err(broken),
         }
         place += SLOT_LEN;
     }
-    BodyFault::NoMemory
+    Ok(())
 }
 
 // The slots of a Tell, from a place to the end of the bytes.
@@ -97,7 +98,10 @@ pub(crate) fn watch_at(
     let count = (bytes.len() - start) / SLOT_LEN;
     let mut slots = match Vec::with_capacity(alloc, count) {
         Ok(slots) => slots,
-        Err(_) => return Err(slots_fault(settings, bytes, start, prefix, count)),
+        Err(refused) => {
+            check_slots(settings, bytes, start, prefix, count)?;
+            return Err(BodyFault::from(refused));
+        }
     };
     let mut before = None;
     let mut place = start;
@@ -161,22 +165,23 @@ fn settled_at(
     flag_at(bytes, place + settings.digits() as usize)
 }
 
-// Why links aren't read if memory was refused: the first field that breaks its rule, and else want of memory.
-fn links_fault(settings: &Settings, bytes: &[u8], start: usize, count: usize) -> BodyFault
+// The first field of links that breaks its rule, if one does: it is looked for if memory for the links was refused.
+fn check_links(settings: &Settings, bytes: &[u8], start: usize, count: usize) -> Result<(), Broken>
     requires { start + link_len settings.now * count ≤ length bytes.now }
-    ensures { BodyFails result (hello_links_at settings.now count None start bytes.now) }
+    ensures ok { OnOk result (IsOk (hello_links_at settings.now count None start bytes.now)) }
+    ensures err { IfErr result (λ broken. hello_links_at settings.now count None start bytes.now ≡ Err broken) }
 {
     let size = link_len(settings);
     let mut before = None;
     let mut place = start;
     for _ in 0..count {
         if let Err(broken) = settled_at(settings, bytes, place, before, false) {
-            return BodyFault::Field(broken);
+            return Err(broken);
         }
         before = Some(digits_at(settings, bytes, place));
         place += size;
     }
-    BodyFault::NoMemory
+    Ok(())
 }
 
 // The links of a Hello, from a place to the end of the bytes.
@@ -193,7 +198,10 @@ pub(crate) fn hello_links_at(
     let count = (bytes.len() - start) / size;
     let mut links = match Vec::with_capacity(alloc, count) {
         Ok(links) => links,
-        Err(_) => return Err(links_fault(settings, bytes, start, count)),
+        Err(refused) => {
+            check_links(settings, bytes, start, count)?;
+            return Err(BodyFault::from(refused));
+        }
     };
     // A flag is below the base too.
     let are_digits = are_below(settings.base(), &bytes[start..]);
@@ -210,10 +218,11 @@ pub(crate) fn hello_links_at(
     Ok(List::from_vec(links))
 }
 
-// The word of a Cast, from a place to the end of the bytes.
+// The word of a Cast, from a place to the end of the bytes. Its letters fit in place, so they want no memory.
 pub(crate) fn word_at(alloc: Global, bytes: &[u8], start: usize) -> Result<Bytes, BodyFault>
     requires { start ≤ length bytes.now }
-    ensures { BodyGives result (word_at start bytes.now) }
+    ensures value { BodyGives result (word_at start bytes.now) }
+    ensures letters { length bytes.now ≤ start + MOST_LETTERS → result ≢ Err BodyFault.NoMemory }
 {
     let word = &bytes[start..];
     if !are_word_bytes(word) {

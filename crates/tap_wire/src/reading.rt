@@ -9,6 +9,7 @@ use crate::fields::{
 };
 use crate::frame::Body;
 use crate::kind::Kind;
+use crate::layout::MOST_LETTERS;
 use crate::lists::{hello_links_at, watch_at, word_at};
 use std::alloc::Global;
 use tap_name::Settings;
@@ -185,7 +186,8 @@ fn cast_at(
     start: usize,
 ) -> Result<Body, BodyFault>
     requires { start + 11 ≤ length bytes.now }
-    ensures { BodyGives result (cast_at settings.now start bytes.now) }
+    ensures value { BodyGives result (cast_at settings.now start bytes.now) }
+    ensures letters { length bytes.now ≤ start + 11 + MOST_LETTERS → result ≢ Err BodyFault.NoMemory }
 {
     let cast = u32_at(bytes, start);
     let level = level_at(settings, bytes, start + 4)?;
@@ -214,6 +216,7 @@ pub(crate) fn body_at(
     requires long { IsTrue (is_length settings.now kind (length bytes.now - start)) }
     ensures value { BodyGives result (body_at settings.now kind start bytes.now) }
     ensures memory { result ≡ Err BodyFault.NoMemory → IsTrue (has_list kind) }
+    ensures letters { result ≡ Err BodyFault.NoMemory → kind ≢ Kind.Cast }
 {
     match kind {
         Kind::Seek => seek_at(settings, bytes, start),

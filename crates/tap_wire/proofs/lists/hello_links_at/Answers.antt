@@ -13,7 +13,7 @@ returns-in_err-settled c =
     let p = c.args.settings.now in
     let bytes = c.args.bytes.now in
     let count = (length bytes - c.args.start) / c.link_len-size.result in
-    let made = err_from_is_err_and c.from_residual.result c.from_residual.ensures.1 in
+    let made = err_from_is_err_and c.from_residual-in_err-settled.result c.from_residual-in_err-settled.ensures.1 in
     rw (made.1, made.2)
     (ap (λ size. hello_links_at p ((length bytes - c.args.start) / size) None c.args.start bytes) (sym c.link_len-size.ensures.value)
     ∙ links_end p count c.loop.counter (option_copied c.loop.before) c.loop.place bytes c.loop.links.items c.in_err-settled.field-0.0

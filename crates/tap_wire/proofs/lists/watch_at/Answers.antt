@@ -9,7 +9,7 @@ returns-in_err-slot c =
     let p = c.args.settings.now in
     let bytes = c.args.bytes.now in
     let count = (length bytes - c.args.start) / 2 in
-    let made = err_from_is_err_and c.from_residual.result c.from_residual.ensures.1 in
+    let made = err_from_is_err_and c.from_residual-in_err-slot.result c.from_residual-in_err-slot.ensures.1 in
     rw (made.1, made.2)
     (slots_end p c.args.prefix count c.loop.counter c.loop.before c.loop.place bytes c.loop.slots.items c.in_err-slot.field-0.0
     (slots_at p c.args.prefix count None c.args.start bytes) c.loop-test.true (sym c.in_err-slot.ensures) c.loop.invariant.reads)

@@ -3,7 +3,7 @@ use Rattle.tap_name.specs.declared.slot.Offered.{Offered}
 use Rattle.std.specs.Option.{option_copied}
 use Rattle.tap_wire.specs.Fields.{hello_links_at}
 use Rattle.tap_wire.proofs.Loops.{with_front}
-use Rattle.tap_wire.proofs.lists.links_fault.Given as goal
+use Rattle.tap_wire.proofs.lists.check_links.Given as goal
 
 abbrev pub invariant-loop : goal.invariant-loop
 invariant-loop l = record {

@@ -1,7 +1,7 @@
 use Rattle.std.proofs.Common.{◌∙◌, ◌-◌, ◌++◌, ◌∷◌, [], None, arith, sym, ap}
 use Rattle.tap_wire.specs.Fields.{slots_at}
 use Rattle.tap_wire.proofs.Loops.{slots_go_on, slots_end, slots_done, from_the_start, is_read}
-use Rattle.tap_wire.proofs.lists.slots_fault.Goals as goal
+use Rattle.tap_wire.proofs.lists.check_slots.Goals as goal
 
 pub loop-init : goal.loop-init
 loop-init c =
@@ -29,16 +29,16 @@ loop-preserved c =
       at = omega (arith, c.loop.invariant.at);
     }
 
-pub returns-in-Err : goal.returns-in-Err
-returns-in-Err c =
+pub returns-in-Err-clause-err : goal.returns-in-Err-clause-err
+returns-in-Err-clause-err c =
     let p = c.args.settings.now in
     slots_end p c.args.prefix c.args.count c.loop.counter c.loop.before c.loop.place c.args.bytes.now c.loop.invariant.reads.0
     c.in-Err.broken
     (slots_at p c.args.prefix c.args.count None c.args.start c.args.bytes.now) c.loop-test.true (sym c.watch_slot_at.ensures ∙ c.in-Err.is)
     c.loop.invariant.reads.1
 
-pub returns : goal.returns
-returns c =
+pub returns-clause-ok : goal.returns-clause-ok
+returns-clause-ok c =
     let p = c.args.settings.now in
     let front = c.loop.invariant.reads.0 in
     let read = slots_at p c.args.prefix c.args.count None c.args.start c.args.bytes.now in

@@ -2,7 +2,7 @@ use Rattle.std.proofs.Common.{◌≡◌, ◌+◌, ◌*◌, ◌-◌, None, List}
 use Rattle.tap_name.specs.declared.slot.Slot.{Slot}
 use Rattle.tap_wire.specs.Fields.{slots_at}
 use Rattle.tap_wire.proofs.Loops.{with_front}
-use Rattle.tap_wire.proofs.lists.slots_fault.Given as goal
+use Rattle.tap_wire.proofs.lists.check_slots.Given as goal
 
 abbrev pub invariant-loop : goal.invariant-loop
 invariant-loop l = record {

@@ -3,7 +3,7 @@ use Rattle.std.specs.Option.{option_copied}
 use Rattle.tap_name.specs.declared.slot.Offered.{Offered}
 use Rattle.tap_wire.specs.Fields.{hello_links_at}
 use Rattle.tap_wire.proofs.Loops.{links_go_on, links_end, links_done, one_more_fits, from_the_start, is_read, link_named}
-use Rattle.tap_wire.proofs.lists.links_fault.Goals as goal
+use Rattle.tap_wire.proofs.lists.check_links.Goals as goal
 
 pub settled_at-requires : goal.settled_at-requires
 settled_at-requires c =
@@ -44,15 +44,15 @@ loop-preserved c =
       at = grind (arith, c.loop.invariant.at);
     }
 
-pub returns-in-Err : goal.returns-in-Err
-returns-in-Err c =
+pub returns-in-Err-clause-err : goal.returns-in-Err-clause-err
+returns-in-Err-clause-err c =
     let p = c.args.settings.now in
     links_end p c.args.count c.loop.counter (option_copied c.loop.before) c.loop.place c.args.bytes.now c.loop.invariant.reads.0
     c.in-Err.broken
     (hello_links_at p c.args.count None c.args.start c.args.bytes.now) c.loop-test.true c.in-Err.ensures.err c.loop.invariant.reads.1
 
-pub returns : goal.returns
-returns c =
+pub returns-clause-ok : goal.returns-clause-ok
+returns-clause-ok c =
     let p = c.args.settings.now in
     let front = c.loop.invariant.reads.0 in
     let read = hello_links_at p c.args.count None c.args.start c.args.bytes.now in
