@@ -1,3 +1,6 @@
+ghost use Rattle.std.specs.Prelude.{◌≡◌};
+ghost use Rattle.tap_table.specs.declared.memory.Refused.TheVariants as refused;
+
 use std::alloc::{AllocError, AllocFailed};
 use std::error::Error;
 use std::fmt;
@@ -36,6 +39,29 @@ impl From<tap_link::NoMemory> for NoMemory {
 
 impl From<tap_register::NoMemory> for NoMemory {
     fn from(_: tap_register::NoMemory) -> NoMemory {
+        NoMemory
+    }
+}
+
+// Why a slot takes no further link.
+#[derive(Clone, Copy)]
+pub(crate) enum Refused {
+    // It has as many as a slot may have.
+    TooMany,
+    // Its link set was refused memory.
+    NoMemory,
+}
+
+impl From<tap_link::NoMemory> for Refused {
+    ghost from_gives = { λ _ e. e ≡ refused.NoMemory };
+
+    fn from(_: tap_link::NoMemory) -> Refused {
+        Refused::NoMemory
+    }
+}
+
+impl From<Refused> for NoMemory {
+    fn from(_: Refused) -> NoMemory {
         NoMemory
     }
 }

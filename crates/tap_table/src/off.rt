@@ -1,5 +1,6 @@
 ghost use Rattle.std.specs.Prelude.{◌≡◌, ◌<◌, ◌≤◌, ◌+◌, ◌++◌, length, IfOk, OnOk};
 ghost use Rattle.std.specs.List.{flat_map};
+ghost use Rattle.tap_register.specs.Stamp.{HasGivenAtMost};
 ghost use Rattle.tap_table.specs.ByName.{slots_in, targets_by_name, targets_of};
 ghost use Rattle.tap_table.specs.Table.{links_at};
 ghost use Rattle.tap_table.specs.Ties.{off_ties};
@@ -22,6 +23,7 @@ pub(crate) fn off_ties(
     requires { stamp.old + length (targets_by_name table.now) ≤ u32.MAX }
     ensures value { IfOk result (λ words. words.items ≡ off_ties stamp.old (targets_by_name table.now)) }
     ensures stamped { IfOk result (λ words. stamp.new ≡ stamp.old + length (targets_by_name table.now)) }
+    ensures given { HasGivenAtMost (length (targets_by_name table.now)) stamp.old stamp.new }
 {
     let mut words = Vec::new(alloc);
     let ranges = 2 * table.settings().digits() as usize;
@@ -44,6 +46,7 @@ fn push_range(
     ensures value { OnOk result (words.new.items
         ≡ words.old.items ++ off_ties stamp.old (targets_of (flat_map (links_at table.now) (slots_in range)))) }
     ensures stamped { OnOk result (stamp.new ≡ stamp.old + length (targets_of (flat_map (links_at table.now) (slots_in range)))) }
+    ensures given { HasGivenAtMost (length (targets_of (flat_map (links_at table.now) (slots_in range)))) stamp.old stamp.new }
 {
     for digit in range.from..range.to {
         let slot = Slot {
@@ -60,6 +63,7 @@ fn push_links(words: &mut Vec<Tie>, stamp: &mut Stamp, set: &LinkSet<Name>) -> R
     requires { stamp.old + length (targets_of set.now.links) ≤ u32.MAX }
     ensures value { OnOk result (words.new.items ≡ words.old.items ++ off_ties stamp.old (targets_of set.now.links)) }
     ensures stamped { OnOk result (stamp.new ≡ stamp.old + length (targets_of set.now.links)) }
+    ensures given { HasGivenAtMost (length (targets_of set.now.links)) stamp.old stamp.new }
 {
     for at in 0..set.len() {
         words.push(Tie {

@@ -1,10 +1,10 @@
-ghost use Rattle.std.specs.Prelude.{◌≡◌, ◌<◌, ◌≤◌, ◌&&◌, [], length, replicate, slice_set, IsOk, IsSome, IsTrue, IfOk, OnOk, OnErr};
+ghost use Rattle.std.specs.Prelude.{◌≡◌, ◌<◌, ◌≤◌, ◌↔◌, ◌&&◌, [], length, replicate, slice_set, Err, IsOk, IsNone, IsSome, IsTrue, IfOk, OnOk, OnErr};
 ghost use Rattle.std.specs.Option.{is_none};
 ghost use Rattle.tap_link.specs.LinkSet.{forgotten, has_room, is_pinned, is_settled, is_settled_or_leaving, kind_of, marked, offered, pinned, released, released_as, removed};
 ghost use Rattle.tap_table.specs.Sets.{AreEmptyFrom, all_links, has_primary, most_links_of_slot, most_slots_of_table, set_in};
 ghost use Rattle.tap_table.specs.Table.{name_cmp};
 
-use crate::memory::NoMemory;
+use crate::memory::{NoMemory, Refused};
 use std::alloc::Global;
 use std::marker::Model;
 use tap_link::{Cease, Forget, LinkSet, Release, Released};
@@ -210,8 +210,9 @@ fn past(empty_from: usize, number: usize) -> usize
     }
 }
 
-// Pins a target in a link set, as the set does, if it has few enough links.
-fn pin_in(set: &mut LinkSet<Name>, target: Name) -> Result<bool, NoMemory>
+// Pins a target in a link set, as the set does, if it has few enough links: it is refused as one too many exactly if the slot has
+// all that it may have and no link to the target.
+fn pin_in(set: &mut LinkSet<Name>, target: Name) -> Result<bool, Refused>
     requires { length set.old.links ≤ most_links_of_slot }
     ensures answer { IfOk result (λ added. added ≡ is_none (kind_of name_cmp set.old.links target)) }
     ensures after { OnOk result (set.new ≡ pinned name_cmp set.old target) }
@@ -219,18 +220,21 @@ fn pin_in(set: &mut LinkSet<Name>, target: Name) -> Result<bool, NoMemory>
     ensures inline { length set.old.links < 4 → IsOk result }
     ensures linked { IsSome (kind_of name_cmp set.old.links target) → IsOk result }
     ensures few { length set.new.links ≤ most_links_of_slot }
+    ensures too_many { (result ≡ Err Refused.TooMany)
+        ↔ ((length set.old.links ≡ most_links_of_slot) × IsNone (kind_of name_cmp set.old.links target)) }
 {
     if set.len() < MOST_LINKS_OF_SLOT {
         return Ok(set.pin(target)?);
     }
     match set.kind_of(target) {
         Some(_) => Ok(false),
-        None => Err(NoMemory),
+        None => Err(Refused::TooMany),
     }
 }
 
-// Offers a target to a link set, as the set does, if it has few enough links.
-fn offer_in(set: &mut LinkSet<Name>, target: Name) -> Result<bool, NoMemory>
+// Offers a target to a link set, as the set does, if it has few enough links: it is refused as one too many exactly if the slot has
+// all that it may have, no link to the target, and room for a settled one.
+fn offer_in(set: &mut LinkSet<Name>, target: Name) -> Result<bool, Refused>
     requires { length set.old.links ≤ most_links_of_slot }
     ensures answer { IfOk result (λ added. added
         ≡ (is_none (kind_of name_cmp set.old.links target) && has_room set.old)) }
@@ -240,6 +244,8 @@ fn offer_in(set: &mut LinkSet<Name>, target: Name) -> Result<bool, NoMemory>
     ensures linked { IsSome (kind_of name_cmp set.old.links target) → IsOk result }
     ensures full { ¬ (IsTrue (has_room set.old)) → IsOk result }
     ensures few { length set.new.links ≤ most_links_of_slot }
+    ensures too_many { (result ≡ Err Refused.TooMany)
+        ↔ ((length set.old.links ≡ most_links_of_slot) × IsNone (kind_of name_cmp set.old.links target) × IsTrue (has_room set.old)) }
 {
     if set.len() < MOST_LINKS_OF_SLOT {
         return Ok(set.offer(target)?);
@@ -247,5 +253,5 @@ fn offer_in(set: &mut LinkSet<Name>, target: Name) -> Result<bool, NoMemory>
     if set.kind_of(target).is_some() || !set.has_room() {
         return Ok(false);
     }
-    Err(NoMemory)
+    Err(Refused::TooMany)
 }

@@ -2,6 +2,7 @@ ghost use Rattle.std.specs.Prelude.{◌≡◌, ◌≢◌, ◌+◌, ◌<◌, ◌�
 ghost use Rattle.tap_link.specs.LinkSet.{is_pinned, is_settled, is_settled_or_leaving};
 ghost use Rattle.tap_name.specs.Name.{IsName};
 ghost use Rattle.tap_register.specs.Registers.{entry_of, is_newer};
+ghost use Rattle.tap_register.specs.Stamp.{HasGivenAtMost};
 ghost use Rattle.tap_table.specs.ByName.{targets_by_name};
 ghost use Rattle.tap_table.specs.Table.{empty_table, has_room_near, kind_in, links_near, name_cmp, rows};
 ghost use Rattle.tap_table.specs.Ties.{AreTies, forgotten, held_word, holders_on, marked, off_ties, offer_tells, offered, pin_tells, pinned, release_tells, released, removed, stamp_after};
@@ -137,6 +138,7 @@ impl Ties {
         requires numbers { stamp.old + length (rows self.now.table) ≤ u32.MAX }
         ensures words { IfOk result (λ words. words ≡ off_ties stamp.old (targets_by_name self.now.table)) }
         ensures stamped { IfOk result (λ words. stamp.new ≡ stamp.old + length (targets_by_name self.now.table)) }
+        ensures given { HasGivenAtMost (length (targets_by_name self.now.table)) stamp.old stamp.new }
     {
         let words = off_ties(alloc, stamp, &self.table)?;
         Ok(List::from_vec(words))

@@ -36,4 +36,22 @@ loop-i-preserved c =
       rw stamped (numbers_left stamp here rest left parts (c.args.stamp.now + length all) c.loop-i.invariant.0),
       rw (pushed, stamped) (words_left stamp here rest left parts c.loop-i.words.items (off_ties c.args.stamp.now all)
           c.loop-i.invariant.1),
+      omega (arith, stamped, c.loop-i.invariant.2),
     )
+
+-- memory was refused on the way
+pub returns-in_err-push_range-clause-given : goal.returns-in_err-push_range-clause-given
+returns-in_err-push_range-clause-given c =
+    let t = c.args.table.now in
+    let i = c.loop-i.i in
+    let digits = c.digits.ensures.value ∙ ap (λ p. p.digits) c.settings.ensures.value in
+    let inside : i < 2 * t.settings.digits = omega (arith, c.loop-i-test.true, digits) in
+    let here = targets_of (links_in t (range_by_name t.settings t.owner i)) in
+    let range = ap (λ r. length (targets_of (links_in t r))) c.range_by_name.ensures.value in
+    let numbers = numbers_left c.loop-i.stamp here (targets_of (links_from t (i + 1))) (targets_of (links_from t i))
+    (targets_in_ranges t i inside) (c.args.stamp.now + length (targets_by_name t)) c.loop-i.invariant.0 in
+    let given = c.push_range.ensures.given in
+    record {
+      forward = omega (arith, given.forward, c.loop-i.invariant.2);
+      few = omega (arith, given.few, range, numbers);
+    }

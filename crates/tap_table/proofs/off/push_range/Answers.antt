@@ -38,4 +38,23 @@ loop-digit-preserved c =
       rw stamped (numbers_left stamp here rest left parts (c.args.stamp.now + length all) c.loop-digit.invariant.0),
       rw (pushed, stamped) (words_left stamp here rest left parts c.loop-digit.words.items
           (c.args.words.now.items ++ off_ties c.args.stamp.now all) c.loop-digit.invariant.1),
+      omega (arith, stamped, c.loop-digit.invariant.2),
     )
+
+-- memory was refused on the way
+pub returns-in_err-push_links-clause-given : goal.returns-in_err-push_links-clause-given
+returns-in_err-push_links-clause-given c =
+    let t = c.args.table.now in
+    let range = c.args.range in
+    let digit = c.loop-digit.digit in
+    let here = targets_of (links_at t (slot_of_range range digit)) in
+    let rest = targets_of (links_in t (from_digit range (digit + 1))) in
+    let slot = ap (λ (s : LinkSetValue (List ℕ)). length (targets_of s.links)) c.slot.ensures in
+    let numbers = numbers_left c.loop-digit.stamp here rest (targets_of (links_in t (from_digit range digit)))
+    (targets_in_slots t range digit c.loop-digit-test.true) (c.args.stamp.now + length (targets_of (links_in t range)))
+    c.loop-digit.invariant.0 in
+    let given = c.push_links.ensures.given in
+    record {
+      forward = omega (arith, given.forward, c.loop-digit.invariant.2);
+      few = omega (arith, given.few, slot, numbers);
+    }

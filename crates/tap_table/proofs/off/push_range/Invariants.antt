@@ -1,4 +1,4 @@
-use Rattle.std.proofs.Common.{◌≡◌, ◌+◌, ◌++◌, length}
+use Rattle.std.proofs.Common.{◌≡◌, ◌≤◌, ◌+◌, ◌++◌, length}
 use Rattle.tap_table.specs.ByName.{targets_of}
 use Rattle.tap_table.specs.Ties.{off_ties}
 use Rattle.tap_table.proofs.LinksByName.{links_in}
@@ -11,3 +11,4 @@ invariant-loop-digit l =
     let all = targets_of (links_in l.table l.range) in
     (l.stamp + length left ≡ l.fn.stamp + length all)
     × (l.words.items ++ off_ties l.stamp left ≡ l.fn.words.items ++ off_ties l.fn.stamp all)
+    × (l.fn.stamp ≤ l.stamp)
