@@ -1,4 +1,5 @@
-ghost use Rattle.std.specs.Prelude.{◌≡◌, ◌==◌, ◌≤◌, ℕ, [], if◌then◌else◌, not, Some, IfOk, OnOk, OnErr};
+ghost use Rattle.std.specs.Prelude.{◌≡◌, ◌==◌, ◌≤◌, ℕ, false, [], if◌then◌else◌, not, Some, IfOk, OnOk, OnErr};
+ghost use Rattle.tap_table.specs.Levels.{is_kept};
 ghost use Rattle.tap_cast.specs.Casts.{level_of_cast, turn_of, with_cast};
 
 use crate::target::CastTarget;
@@ -67,12 +68,14 @@ impl Casts {
     ///
     /// Else the level is kept, and the cast goes on over the levels from this one up to the one that
     /// was kept before, or to the last if none was: in each slot of these levels to the primary, or if
-    /// there is none to all pins. If memory is refused, nothing changes.
+    /// there is none to all pins. If memory is refused, nothing changes; where the answer is `Already`, none is wanted.
     pub fn cast(&mut self, cast: u32, level: u8, table: &Table) -> Result<CastTurn, NoMemory>
         requires { level ≤ table.now.settings.digits }
         ensures turn { IfOk result (λ turn. turn ≡ turn_of self.old table.now cast level) }
         ensures after { OnOk result (self.new ≡ with_cast self.old cast level) }
         ensures same { OnErr result (self.new ≡ self.old) }
+        // Where the answer is `Already`, no memory is wanted.
+        ensures known { OnErr result (is_kept (level_of_cast self.old cast) level ≡ false) }
     {
         let kept = self.level_of(cast);
         if is_kept(kept, level) {
