@@ -5,7 +5,9 @@ use Rattle.std.specs.Cmp.Lexicographic.{pointwise}
 use Rattle.std.specs.List.{All}
 use Rattle.std.specs.Option.{is_some}
 use Rattle.std.proofs.lemmas.Bool.{cases_Bool, or_parts, or_right}
+use Rattle.std.proofs.lemmas.List.{nil_from_length}
 use Rattle.std.proofs.lemmas.List.Elements.{All-cons, All-head, All-nil, All-tail}
+use Rattle.tap_register.specs.Stamp.{HasGivenAtMost}
 use Rattle.tap_table.specs.Table.{TableValue}
 use Rattle.tap_pointer.specs.declared.hop.Hop.{Hop}
 use Rattle.tap_pointer.specs.declared.lay.Lay.{Lay}
@@ -146,3 +148,22 @@ pub length_step : (lays : List Lay) (first last : ℕ) (here : List Laying) → 
     → last + length here ≡ first + length (lays ++ lays_numbered last here)
 length_step lays first last here is =
     omega (arith, is, length-append lays (lays_numbered last here), length-lays_numbered last here)
+
+-- Some of the Lays are there, and those of one pair are next. `all` are those of all pairs.
+module _ (lays : List Lay) (first last : ℕ) (here later all : List Laying)
+    (is : lays ++ lays_numbered last (here ++ later) ≡ lays_numbered first all) (stamped : last ≡ first + length lays) where
+  how_many : length lays + (length here + length later) ≡ length all
+  how_many =
+      let whole = ap length is in
+      let parts = length-append lays (lays_numbered last (here ++ later)) in
+      let left = length-lays_numbered last (here ++ later) in
+      omega (arith, whole, parts, left, length-append here later, length-lays_numbered first all)
+
+  -- so the numbers given by then, and of those for this pair some more, are at most as many as all
+  pub given_on_the_way : (next : ℕ) → HasGivenAtMost (length here) last next → HasGivenAtMost (length all) first next
+  given_on_the_way next given =
+      record { forward = omega (arith, given.forward, stamped); few = omega (arith, given.few, stamped, how_many) }
+
+  -- and there are none of this pair if there are none at all
+  pub none_on_the_way : all ≡ [] → here ≡ []
+  none_on_the_way none = let few : length all ≡ 0 = ap length none in nil_from_length here (omega (arith, few, how_many))

@@ -7,7 +7,7 @@ use Rattle.std.specs.List.Sorted.{IsStrictlySortedBy}
 use Rattle.std.specs.Map.{keys_of, lookup}
 use Rattle.std.specs.Option.{is_some, option_map, unwrap_or}
 use Rattle.tap_name.specs.Order.{name_cmp}
-use Rattle.tap_register.specs.Registers.{applied, is_newer}
+use Rattle.tap_register.specs.Registers.{applied, entry_of, is_newer}
 use Rattle.tap_register.specs.declared.registers.Entry.{Entry}
 use Rattle.tap_pointer.specs.declared.change.Change.{Change}
 use Rattle.tap_pointer.specs.declared.hop.Hop.{Hop}
@@ -44,6 +44,14 @@ state_among pairs pair = unwrap_or (lookup (is_at (pair_cmp pair)) pairs) nothin
 -- what is known of a pair
 abbrev pub state_of : PointersValue → Pair → PairState
 state_of p pair = state_among p.pairs pair
+
+-- nothing is known of a pair
+abbrev pub IsUnknown : PointersValue → Pair → Type 0
+IsUnknown p pair = lookup (is_at (pair_cmp pair)) p.pairs ≡ None
+
+-- a sender has sent no Lay of a pair
+abbrev pub IsNewSender : PointersValue → Pair → List ℕ → Type 0
+IsNewSender p pair from = entry_of name_cmp (state_of p pair).registers from ≡ None
 
 -- the pointers with this known of a pair, and of the others what was
 abbrev pub with_state : PointersValue → Pair → PairState → PointersValue

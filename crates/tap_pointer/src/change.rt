@@ -2,7 +2,7 @@ ghost use Rattle.std.specs.Prelude.{◌≡◌, ◌+◌, ◌≤◌, true, false, 
 ghost use Rattle.std.specs.BTreeMap.{insert_entry, is_at, IsOrdered};
 ghost use Rattle.std.specs.Map.{lookup};
 ghost use Rattle.tap_name.specs.Order.{name_cmp};
-ghost use Rattle.tap_register.specs.Registers.{is_newer};
+ghost use Rattle.tap_register.specs.Registers.{entry_of, is_newer};
 ghost use Rattle.tap_pointer.specs.Pair.{pair_cmp};
 ghost use Rattle.tap_pointer.specs.Pointers.{change_between, held_or_laid_count, state_among, with_lay, with_laid, with_published};
 
@@ -48,6 +48,7 @@ pub(crate) fn publish(
     ensures after { OnOk result (pairs.new.entries
         ≡ insert_entry pair_cmp pairs.old.entries own (with_published (state_among pairs.old.entries own) true)) }
     ensures same { OnErr result (pairs.new.entries ≡ pairs.old.entries) }
+    ensures unknown { OnErr result (lookup (is_at (pair_cmp own)) pairs.old.entries ≡ None) }
     ensures ordered { IsOrdered pair_cmp pairs.old }
 {
     if let Some(state) = pairs.get_mut(&own) {
@@ -93,6 +94,7 @@ pub(crate) fn take(
     ensures after { OnOk result (pairs.new.entries
         ≡ insert_entry pair_cmp pairs.old.entries pair (with_lay (state_among pairs.old.entries pair) from version pointer)) }
     ensures same { OnErr result (pairs.new.entries ≡ pairs.old.entries) }
+    ensures new_sender { OnErr result (entry_of name_cmp (state_among pairs.old.entries pair).registers from ≡ None) }
     ensures ordered { IsOrdered pair_cmp pairs.old }
 {
     if let Some(state) = pairs.get_mut(&pair) {

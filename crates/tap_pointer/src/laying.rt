@@ -1,5 +1,6 @@
-ghost use Rattle.std.specs.Prelude.{◌≡◌, ◌+◌, ◌≤◌, true, false, ◌++◌, length, slice_index, All, Some, OnOk};
+ghost use Rattle.std.specs.Prelude.{◌≡◌, ◌+◌, ◌≤◌, true, false, [], ◌++◌, length, slice_index, All, Some, IsOk, OnOk};
 ghost use Rattle.tap_name.specs.Name.{IsName};
+ghost use Rattle.tap_register.specs.Stamp.{HasGivenAtMost};
 ghost use Rattle.tap_pointer.specs.Pointers.{is_held_or_laid};
 ghost use Rattle.tap_pointer.specs.Reconcile.{hop_of, is_held_to, laying_at, layings, lays_numbered, may_be_apart, passes, told_off, told_on, turns_off, wanted_hop};
 
@@ -139,6 +140,8 @@ pub(crate) fn push_layings(
     requires { stamp.old + length (layings pair.now laid.now wanted.now) ≤ u32.MAX }
     ensures added { OnOk result (lays.new.items ≡ lays.old.items ++ lays_numbered stamp.old (layings pair.now laid.now wanted.now)) }
     ensures stamped { OnOk result (stamp.new ≡ stamp.old + length (layings pair.now laid.now wanted.now)) }
+    ensures given { HasGivenAtMost (length (layings pair.now laid.now wanted.now)) stamp.old stamp.new }
+    ensures none { layings pair.now laid.now wanted.now ≡ [] → IsOk result }
 {
     push_laying(lays, stamp, pair, told_off(laid, wanted), false)?;
     push_laying(lays, stamp, pair, told_on(laid, wanted), true)
@@ -155,6 +158,8 @@ fn push_laying(
     requires { stamp.old + length (laying_at pair.now on hop) ≤ u32.MAX }
     ensures added { OnOk result (lays.new.items ≡ lays.old.items ++ lays_numbered stamp.old (laying_at pair.now on hop)) }
     ensures stamped { OnOk result (stamp.new ≡ stamp.old + length (laying_at pair.now on hop)) }
+    ensures given { HasGivenAtMost (length (laying_at pair.now on hop)) stamp.old stamp.new }
+    ensures none { laying_at pair.now on hop ≡ [] → IsOk result }
 {
     let Some(hop) = hop else {
         return Ok(());

@@ -1,6 +1,7 @@
-ghost use Rattle.std.specs.Prelude.{◌≡◌, ◌+◌, ◌*◌, ◌<◌, ◌≤◌, not, length, map, slice_get, Some, IfOk, OnOk, OnErr};
+ghost use Rattle.std.specs.Prelude.{◌≡◌, ◌+◌, ◌*◌, ◌<◌, ◌≤◌, ◌⊎◌, not, [], length, map, slice_get, Some, IsOk, IfOk, OnOk, OnErr};
 ghost use Rattle.tap_name.specs.Name.{IsName};
-ghost use Rattle.tap_pointer.specs.Pointers.{IsPointers, all_withdrawn, held_or_laid_count, is_news, lay_applied, no_pointers, own_pair, owner_publishes, pair_of, pairs_held, pointer_at, published, server_for, withdrawn};
+ghost use Rattle.tap_register.specs.Stamp.{HasGivenAtMost};
+ghost use Rattle.tap_pointer.specs.Pointers.{IsNewSender, IsPointers, IsUnknown, all_withdrawn, held_or_laid_count, is_news, lay_applied, no_pointers, own_pair, owner_publishes, pair_of, pairs_held, pointer_at, published, server_for, withdrawn};
 ghost use Rattle.tap_pointer.specs.Reconcile.{AreLaid, AreLaidBeside, AreLaidBut, AreLaidUnlessApart, AreNamesHeld, clear_lays, cleared, reconcile_lays, reconciled};
 
 use crate::change::{held_or_laid_count, lay, publish, take, withdraw};
@@ -95,11 +96,14 @@ impl Pointers {
         }
     }
 
-    /// Publishes an object, and answers whether the node didn't publish it before. A refused call changes nothing.
+    /// Publishes an object, and answers whether the node didn't publish it before. A refused call changes nothing, and comes
+    /// only if nothing is known of the pair.
     pub fn publish(&mut self, object: Name) -> Result<bool, NoMemory>
         ensures answer { IfOk result (λ first. first ≡ not (owner_publishes self.old object)) }
         ensures after { OnOk result (self.new ≡ published self.old object) }
         ensures same { OnErr result (self.new ≡ self.old) }
+        // Only a pair of which nothing is known wants memory.
+        ensures unknown { OnErr result (IsUnknown self.old (own_pair self.old object)) }
     {
         let own = self.own(object);
         let (first, change) = publish(&mut self.pairs, self.alloc, own)?;
@@ -130,7 +134,7 @@ impl Pointers {
     }
 
     /// Takes a Lay of a pair from a sender, and answers whether its version is newer than what the sender's register has.
-    /// An older Lay changes nothing, and a refused call changes nothing.
+    /// An older Lay changes nothing, and a refused call changes nothing. A sender's first Lay of a pair alone wants memory.
     ///
     /// The level is from 1 to the number of digits.
     pub fn apply_lay(
@@ -147,6 +151,8 @@ impl Pointers {
         ensures answer { IfOk result (λ newer. newer ≡ is_news self.old (pair_of object server) from version) }
         ensures after { OnOk result (self.new ≡ lay_applied self.old (pair_of object server) from version (pointer_at level on)) }
         ensures same { OnErr result (self.new ≡ self.old) }
+        // Only a sender's first Lay of a pair wants memory.
+        ensures new_sender { OnErr result (IsNewSender self.old (pair_of object server) from) }
     {
         let pair = Pair { object, server };
         let pointer = Pointer { level, on };
@@ -164,7 +170,8 @@ impl Pointers {
     /// unless it is the same node, and then the wanted hop is told on.
     ///
     /// The table is the node's. The objects held or laid are names of its settings, and the stamp has two numbers left
-    /// for each pair that is held or laid. Once memory was refused, the pointers are used no more.
+    /// for each pair that is held or laid. `NoMemory` comes only if a Lay is due. If memory is refused, the pointers are as
+    /// they were, and the stamp may have given some of the numbers.
     ///
     /// Rule: docs/PROTOCOL.md, "Pointers".
     pub fn reconcile(&mut self, table: &Table, stamp: &mut Stamp) -> Result<List<Lay>, NoMemory>
@@ -175,6 +182,9 @@ impl Pointers {
         ensures after { OnOk result (self.new ≡ reconciled table.now self.old) }
         ensures stamped { IfOk result (λ lays. stamp.new ≡ stamp.old + length lays) }
         ensures laid { OnOk result (AreLaid table.now self.new) }
+        ensures same { OnErr result (self.new ≡ self.old) }
+        ensures given { HasGivenAtMost (length (reconcile_lays table.now stamp.old self.old)) stamp.old stamp.new }
+        ensures none_due { reconcile_lays table.now stamp.old self.old ≡ [] → IsOk result }
     {
         self.lays_as_wanted(table, stamp, None)
     }
@@ -183,7 +193,8 @@ impl Pointers {
     /// level or a lower one, aren't laid on at a lower one, and whose object has another digit there than the owner. Each
     /// other pair is laid as wanted, and isn't looked up.
     ///
-    /// So it serves after a step that changed primaries of this level alone.
+    /// So it serves after a step that changed primaries of this level alone. If memory is refused, it leaves what `reconcile`
+    /// leaves then.
     ///
     /// Rule: docs/PROTOCOL.md, "Pointers".
     pub fn reconcile_at(
@@ -200,6 +211,9 @@ impl Pointers {
         ensures after { OnOk result (self.new ≡ reconciled table.now self.old) }
         ensures stamped { IfOk result (λ lays. stamp.new ≡ stamp.old + length lays) }
         ensures laid { OnOk result (AreLaid table.now self.new) }
+        ensures same { OnErr result (self.new ≡ self.old) }
+        ensures given { HasGivenAtMost (length (reconcile_lays table.now stamp.old self.old)) stamp.old stamp.new }
+        ensures none_due { reconcile_lays table.now stamp.old self.old ≡ [] → IsOk result }
     {
         if level < self.lowest {
             return Ok(List::from_vec(Vec::new(self.alloc)));
@@ -223,6 +237,9 @@ impl Pointers {
         ensures after { OnOk result (self.new ≡ reconciled table.now self.old) }
         ensures stamped { IfOk result (λ lays. stamp.new ≡ stamp.old + length lays) }
         ensures laid { OnOk result (AreLaid table.now self.new) }
+        ensures same { OnErr result (self.new ≡ self.old) }
+        ensures given { HasGivenAtMost (length (reconcile_lays table.now stamp.old self.old)) stamp.old stamp.new }
+        ensures none_due { reconcile_lays table.now stamp.old self.old ≡ [] → IsOk result }
     {
         // The contract of this call says that the pairs ascend.
         let _ordered = self.pairs.len();
@@ -238,7 +255,7 @@ impl Pointers {
     /// pair alone.
     ///
     /// So it serves after a step that published or withdrew this pair or took a Lay of it, and changed no primary of the
-    /// table. If memory is refused, the pointers are as they were.
+    /// table. If memory is refused, it leaves what `reconcile` leaves then.
     ///
     /// Rule: docs/PROTOCOL.md, "Pointers".
     pub fn reconcile_pair(
@@ -257,6 +274,8 @@ impl Pointers {
         ensures stamped { IfOk result (λ lays. stamp.new ≡ stamp.old + length lays) }
         ensures laid { OnOk result (AreLaid table.now self.new) }
         ensures same { OnErr result (self.new ≡ self.old) }
+        ensures given { HasGivenAtMost (length (reconcile_lays table.now stamp.old self.old)) stamp.old stamp.new }
+        ensures none_due { reconcile_lays table.now stamp.old self.old ≡ [] → IsOk result }
     {
         // It tells that the pairs ascend.
         let _ordered = self.pairs.len();
@@ -279,7 +298,11 @@ impl Pointers {
     /// takes to have the pair laid as wanted. The pair is looked up once.
     ///
     /// Each pair is laid as wanted before. The object is a name of the table's settings, the level is from 1 to the number of
-    /// digits, and the stamp has two numbers left. Once memory was refused, the pointers are used no more.
+    /// digits, and the stamp has two numbers left.
+    ///
+    /// `NoMemory` comes only at a sender's first Lay of the pair, or if Lays are due. If memory is refused, the pointers are
+    /// as they were, or else as the call leaves them but for the Lays that weren't given, of whose numbers the stamp may have
+    /// given some.
     ///
     /// Rule: docs/PROTOCOL.md, "Lay".
     pub fn take_lay(
@@ -303,6 +326,15 @@ impl Pointers {
         ensures after { OnOk result (self.new ≡ reconciled table.now
             (lay_applied self.old (pair_of object server) from version (pointer_at level on))) }
         ensures stamped { IfOk result (λ lays. stamp.new ≡ stamp.old + length lays) }
+        // If memory is refused, either nothing was done, or all but to give the Lays.
+        ensures refused { OnErr result (((self.new ≡ self.old) × (stamp.new ≡ stamp.old)) ⊎ (self.new ≡ reconciled table.now
+            (lay_applied self.old (pair_of object server) from version (pointer_at level on)))) }
+        ensures given { HasGivenAtMost (length (reconcile_lays table.now stamp.old
+            (lay_applied self.old (pair_of object server) from version (pointer_at level on)))) stamp.old stamp.new }
+        // A later Lay of a sender wants memory only if it takes Lays to have the pair laid as wanted.
+        ensures none_due { reconcile_lays table.now stamp.old
+            (lay_applied self.old (pair_of object server) from version (pointer_at level on)) ≡ []
+            → OnErr result (IsNewSender self.old (pair_of object server) from) }
     {
         let pair = Pair { object, server };
         let pointer = Pointer { level, on };
@@ -320,8 +352,8 @@ impl Pointers {
     /// Ends the pointers, with their node: the Lays that tell off every hop that is laid, ascending by pair, with the
     /// next numbers of the stamp. Nothing is laid, held or published afterwards.
     ///
-    /// The stamp has a number left for each pair that is held or laid. Once memory was refused, the pointers are used no
-    /// more.
+    /// The stamp has a number left for each pair that is held or laid. If memory is refused, the pointers are as they were,
+    /// and the stamp may have given some of the numbers.
     ///
     /// Rule: docs/PROTOCOL.md, "Pointers".
     pub fn clear(&mut self, stamp: &mut Stamp) -> Result<List<Lay>, NoMemory>
@@ -329,6 +361,8 @@ impl Pointers {
         ensures answer { IfOk result (λ lays. lays ≡ clear_lays stamp.old self.old) }
         ensures after { OnOk result (self.new ≡ cleared self.old) }
         ensures stamped { IfOk result (λ lays. stamp.new ≡ stamp.old + length lays) }
+        ensures same { OnErr result (self.new ≡ self.old) }
+        ensures given { HasGivenAtMost (length (clear_lays stamp.old self.old)) stamp.old stamp.new }
     {
         let lays = lays_to_none(self.alloc, &self.pairs, stamp)?;
         self.pairs.clear();

@@ -1,6 +1,8 @@
-ghost use Rattle.std.specs.Prelude.{◌≡◌, ◌≤◌, length, All, IfOk, OnOk, OnErr};
+ghost use Rattle.std.specs.Prelude.{◌≡◌, ◌≤◌, length, All, None, IfOk, OnOk, OnErr};
 ghost use Rattle.std.specs.BTreeMap.{insert_entry, IsOrdered};
 ghost use Rattle.tap_name.specs.Name.{IsName};
+ghost use Rattle.tap_name.specs.Order.{name_cmp};
+ghost use Rattle.tap_register.specs.Registers.{entry_of};
 ghost use Rattle.tap_pointer.specs.Pair.{pair_cmp};
 ghost use Rattle.tap_pointer.specs.Pointers.{change_between, state_among, with_lay};
 ghost use Rattle.tap_pointer.specs.Reconcile.{relaid, wanted_hop};
@@ -45,6 +47,7 @@ pub(crate) fn take_and_lay(
     ensures after { OnOk result (pairs.new.entries ≡ insert_entry pair_cmp pairs.old.entries pair
         (relaid table.now pair (state_among pairs.old.entries pair) from version pointer)) }
     ensures same { OnErr result (pairs.new.entries ≡ pairs.old.entries) }
+    ensures new_sender { OnErr result (entry_of name_cmp (state_among pairs.old.entries pair).registers from ≡ None) }
     ensures ordered { IsOrdered pair_cmp pairs.old }
 {
     if let Some(state) = pairs.get_mut(&pair) {
@@ -73,6 +76,7 @@ fn take(
     ensures to { IfOk result (λ r. r.to ≡ wanted_hop table.now (pair.now, with_lay state.old from version pointer)) }
     ensures after { OnOk result (state.new ≡ relaid table.now pair.now state.old from version pointer) }
     ensures same { OnErr result (state.new ≡ state.old) }
+    ensures new_sender { OnErr result (entry_of name_cmp state.old.registers from ≡ None) }
 {
     let (_, taken) = state.take(from, version, pointer)?;
     let laid = state.laid;

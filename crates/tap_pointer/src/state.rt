@@ -1,7 +1,7 @@
-ghost use Rattle.std.specs.Prelude.{◌≡◌, true, [], IfOk, OnOk, OnErr};
+ghost use Rattle.std.specs.Prelude.{◌≡◌, true, [], None, IfOk, OnOk, OnErr};
 ghost use Rattle.std.specs.List.{list_any};
 ghost use Rattle.tap_name.specs.Order.{name_cmp};
-ghost use Rattle.tap_register.specs.Registers.{is_newer};
+ghost use Rattle.tap_register.specs.Registers.{entry_of, is_newer};
 ghost use Rattle.tap_pointer.specs.Pointers.{change_between, is_held, is_held_or_laid, level_held, nothing_known, with_lay, with_laid, with_published};
 
 use crate::change::Change;
@@ -76,6 +76,7 @@ impl PairState {
         ensures change { IfOk result (λ r. r.1 ≡ change_between self.old (with_lay self.old from version pointer)) }
         ensures after { OnOk result (self.new ≡ with_lay self.old from version pointer) }
         ensures same { OnErr result (self.new ≡ self.old) }
+        ensures new_sender { OnErr result (entry_of name_cmp self.old.registers from ≡ None) }
     {
         let was = self.is_held_or_laid();
         let newer = self.registers.apply(from, version, pointer)?;

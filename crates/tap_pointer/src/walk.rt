@@ -1,5 +1,6 @@
-ghost use Rattle.std.specs.Prelude.{◌≡◌, ◌+◌, ◌*◌, ◌<◌, ◌≤◌, true, false, List, [], length, map, drop, slice_get, All, IfOk};
+ghost use Rattle.std.specs.Prelude.{◌≡◌, ◌+◌, ◌*◌, ◌<◌, ◌≤◌, true, false, List, [], length, map, drop, slice_get, All, IsOk, IfOk};
 ghost use Rattle.tap_name.specs.Name.{IsName};
+ghost use Rattle.tap_register.specs.Stamp.{HasGivenAtMost};
 ghost use Rattle.tap_pointer.specs.declared.pair.Pair.{Pair};
 ghost use Rattle.tap_pointer.specs.declared.state.PairState.{PairState};
 ghost use Rattle.tap_pointer.specs.Due.{pair_of_lay};
@@ -33,6 +34,8 @@ pub(crate) fn lays_to_wanted(
     requires numbers { stamp.old + 2 * held_or_laid_count pairs.now.entries ≤ u32.MAX }
     ensures value { IfOk result (λ lays. lays.items ≡ lays_numbered stamp.old (layings_to_wanted table.now pairs.now.entries)) }
     ensures stamped { IfOk result (λ lays. stamp.new ≡ stamp.old + length lays.items) }
+    ensures given { HasGivenAtMost (length (layings_to_wanted table.now pairs.now.entries)) stamp.old stamp.new }
+    ensures none { layings_to_wanted table.now pairs.now.entries ≡ [] → IsOk result }
 {
     let mut lays = Vec::new(alloc);
     let mut way = Way {
@@ -134,6 +137,7 @@ pub(crate) fn lays_to_none(
     requires numbers { stamp.old + held_or_laid_count pairs.now.entries ≤ u32.MAX }
     ensures value { IfOk result (λ lays. lays.items ≡ lays_numbered stamp.old (layings_to_none pairs.now.entries)) }
     ensures stamped { IfOk result (λ lays. stamp.new ≡ stamp.old + length lays.items) }
+    ensures given { HasGivenAtMost (length (layings_to_none pairs.now.entries)) stamp.old stamp.new }
 {
     let mut lays = Vec::new(alloc);
     for (pair, state) in pairs {

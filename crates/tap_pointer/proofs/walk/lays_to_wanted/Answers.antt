@@ -1,11 +1,12 @@
-use Rattle.std.proofs.Common.{◌≡◌, ◌≤◌, ◌+◌, ◌++◌, ◌∷◌, true, false, length, All, arith, sym, ap, subst, ◌∙◌}
+use Rattle.std.proofs.Common.{◌≡◌, ◌≤◌, ◌+◌, ◌++◌, [], ◌∷◌, true, false, length, All, arith, sym, ap, subst, ◌∙◌}
 use Rattle.std.specs.Map.Iter.{deref_pair}
 use Rattle.std.proofs.lemmas.List.Elements.{All-head, All-tail}
 use Rattle.std.proofs.lemmas.Map.Iter.{rest_more}
 use Rattle.tap_name.specs.Name.{IsName}
+use Rattle.tap_register.specs.Stamp.{HasGivenAtMost}
 use Rattle.tap_pointer.specs.Pointers.{is_held_or_laid, held_or_laid_count}
 use Rattle.tap_pointer.specs.Reconcile.{AreLaidUnlessApart, layings, layings_to_wanted, lays_numbered, may_be_apart, wanted_hop}
-use Rattle.tap_pointer.proofs.Layings.{few_here, laid_already, length_step, numbered_step}
+use Rattle.tap_pointer.proofs.Layings.{few_here, given_on_the_way, laid_already, length_step, none_on_the_way, numbered_step}
 use Rattle.tap_pointer.proofs.walk.lays_to_wanted.Goals as goal
 
 pub follow-requires-clause-name : goal.follow-requires-clause-name
@@ -119,3 +120,45 @@ loop-pair-preserved-then-not-may_be_apart c =
       c.loop-pair.invariant.6,
       c.loop-pair.invariant.7,
     )
+
+-- memory was refused on the way
+pub returns-in_err-push_layings-clause-given : goal.returns-in_err-push_layings-clause-given
+returns-in_err-push_layings-clause-given c =
+    let t = c.args.table.now in
+    let pair = c.in-Some.pair.now in
+    let state = c.in-Some.state.now in
+    let rest = c.next.new.self in
+    let lays = c.loop-pair.lays.items in
+    let stamp = c.loop-pair.stamp in
+    let next = c.push_layings.new.stamp in
+    let left : c.loop-pair.pair-iterator ≡ (pair, state) ∷ rest =
+    rest_more deref_pair _ _ c.next.result (c.in-Some.pair, c.in-Some.state) c.in-Some.is c.next.ensures.steps in
+    let given = subst (λ hop. HasGivenAtMost (length (layings pair state.laid hop)) stamp next) c.follow.ensures.wanted
+    c.push_layings.ensures.given in
+    given_on_the_way lays c.args.stamp.now stamp (layings pair state.laid (wanted_hop t (pair, state))) (layings_to_wanted t rest)
+    (layings_to_wanted t c.args.pairs.now.entries)
+    (ap (λ es. lays ++ lays_numbered stamp (layings_to_wanted t es)) (sym left) ∙ c.loop-pair.invariant.0) c.loop-pair.invariant.1 next given
+
+pub returns-in_err-push_layings-clause-none : goal.returns-in_err-push_layings-clause-none
+returns-in_err-push_layings-clause-none c none =
+    let t = c.args.table.now in
+    let pair = c.in-Some.pair.now in
+    let state = c.in-Some.state.now in
+    let rest = c.next.new.self in
+    let lays = c.loop-pair.lays.items in
+    let stamp = c.loop-pair.stamp in
+    let left : c.loop-pair.pair-iterator ≡ (pair, state) ∷ rest =
+    rest_more deref_pair _ _ c.next.result (c.in-Some.pair, c.in-Some.state) c.in-Some.is c.next.ensures.steps in
+    let here = none_on_the_way lays c.args.stamp.now stamp (layings pair state.laid (wanted_hop t (pair, state))) (layings_to_wanted t rest)
+    (layings_to_wanted t c.args.pairs.now.entries)
+    (ap (λ es. lays ++ lays_numbered stamp (layings_to_wanted t es)) (sym left) ∙ c.loop-pair.invariant.0) c.loop-pair.invariant.1 none in
+    let wrong : false ≡ true = c.in_err-push_layings.ensures.none (ap (λ hop. layings pair state.laid hop) c.follow.ensures.wanted ∙ here) in
+    absurd (cc)
+
+pub returns-clause-given : goal.returns-clause-given
+returns-clause-given c =
+    let t = c.args.table.now in
+    let stamp = c.loop-pair.stamp in
+    let none : HasGivenAtMost 0 stamp stamp = record { forward = omega arith; few = omega arith } in
+    given_on_the_way c.loop-pair.lays.items c.args.stamp.now stamp [] (layings_to_wanted t c.loop-pair.pair-iterator)
+    (layings_to_wanted t c.args.pairs.now.entries) c.loop-pair.invariant.0 c.loop-pair.invariant.1 stamp none

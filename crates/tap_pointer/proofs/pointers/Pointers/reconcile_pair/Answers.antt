@@ -1,19 +1,21 @@
-use Rattle.std.proofs.Common.{◌≡◌, ◌++◌, true, Option, ap, subst, sym, ◌∙◌}
+use Rattle.std.proofs.Common.{◌≡◌, ◌++◌, true, false, length, Option, ap, subst, sym, ◌∙◌}
 use Rattle.std.specs.BTreeMap.{is_at}
 use Rattle.std.specs.List.{All}
 use Rattle.std.specs.Map.{lookup}
+use Rattle.std.proofs.lemmas.List.{nil_from_length}
 use Rattle.tap_name.specs.Name.{IsName}
+use Rattle.tap_register.specs.Stamp.{HasGivenAtMost}
 use Rattle.tap_pointer.specs.declared.hop.Hop.{Hop}
 use Rattle.tap_pointer.specs.Pair.{pair_cmp}
 use Rattle.tap_pointer.specs.Pointers.{IsPairState, is_held_or_laid, pair_of, state_among, with_laid}
-use Rattle.tap_pointer.specs.Reconcile.{AreLaid, AreLaidBut, AreNamesHeld, layings, lays_numbered, wanted_hop}
+use Rattle.tap_pointer.specs.Reconcile.{AreLaid, AreLaidBut, AreNamesHeld, layings, layings_to_wanted, lays_numbered, reconcile_lays, wanted_hop}
 use Rattle.tap_pointer.proofs.Known.{All-found, count_from, count_to, known-among, known-laid, lays_pair, put_keeps, some_if_found}
-use Rattle.tap_pointer.proofs.Layings.{all_laid}
+use Rattle.tap_pointer.proofs.Layings.{all_laid, length-lays_numbered}
 use Rattle.tap_pointer.proofs.Lowest.{from-among, from-laid, from-put}
 use Rattle.tap_pointer.proofs.OnePair.{laid_as_wanted, laid_if_absent, laid_if_laid, none_if_absent, settles}
 use Rattle.tap_pointer.proofs.Laws.{laid_sends_nothing}
 use Rattle.tap_pointer.proofs.pointers.Pointers.reconcile_pair.Goals as goal
-use Rattle.tap_pointer.proofs.pointers.Pointers.reconcile_pair.Goals.{After-is_laid_so}
+use Rattle.tap_pointer.proofs.pointers.Pointers.reconcile_pair.Goals.{After-is_laid_so, After-push_layings}
 
 -- nothing is known of the pair
 pub returns-in_default-clause-answer : goal.returns-in_default-clause-answer
@@ -172,3 +174,37 @@ returns-clause-laid c =
     let all = laid_as_wanted t pair pairs c.in-Some.state.now hop c.lay.ensures.ordered (sym c.in-Some.ensures.value) others
     c.wanted_hop-wanted.ensures in
     subst (All (λ e. e.1.laid ≡ wanted_hop t e)) (sym (lays.after ∙ all)) (all_laid t pairs)
+
+-- the Lays that are due are those of the pair
+few_due : (c : After-push_layings) → length (reconcile_lays c.args.table.now c.args.stamp.now c.args.self.now)
+    ≡ length (layings (pair_of c.args.object c.args.server) c.in-Some.state.now.laid c.wanted_hop-wanted.result)
+few_due c =
+    let t = c.args.table.now in
+    let pair = pair_of c.args.object c.args.server in
+    let pairs = c.self.inside.pairs.entries in
+    let state = c.in-Some.state.now in
+    let others = subst (AreLaidBut t pair) (sym c.self.view_is) c.requires.others in
+    let settled = settles t pair pairs state c.len-ordered.ensures.ordered (sym c.in-Some.ensures.value) others in
+    let laying = λ (hop : Option Hop). layings pair state.laid hop in
+    rw (← c.self.view_is)
+    (length-lays_numbered c.args.stamp.now (layings_to_wanted t pairs)
+    ∙ ap length (settled.lays ∙ ap laying (sym c.wanted_hop-wanted.ensures)))
+
+given : (c : After-push_layings) → HasGivenAtMost (length (reconcile_lays c.args.table.now c.args.stamp.now c.args.self.now))
+    c.args.stamp.now c.push_layings.new.stamp
+given c =
+    subst (λ n. HasGivenAtMost n c.args.stamp.now c.push_layings.new.stamp) (sym (few_due c)) c.push_layings.ensures.given
+
+pub returns-in_err-push_layings-clause-given : goal.returns-in_err-push_layings-clause-given
+returns-in_err-push_layings-clause-given c = given (goal.at.returns-in_err-push_layings-clause-given c).After-push_layings
+
+pub returns-clause-given : goal.returns-clause-given
+returns-clause-given c = given (goal.at.returns-clause-given c).After-push_layings
+
+pub returns-in_err-push_layings-clause-none_due : goal.returns-in_err-push_layings-clause-none_due
+returns-in_err-push_layings-clause-none_due c none =
+    let due = few_due (goal.at.returns-in_err-push_layings-clause-none_due c).After-push_layings in
+    let few = ap length none in
+    let wrong : false ≡ true = c.in_err-push_layings.ensures.none
+    (nil_from_length (layings (pair_of c.args.object c.args.server) c.in-Some.state.now.laid c.wanted_hop-wanted.result) (sym due ∙ few)) in
+    absurd (cc)

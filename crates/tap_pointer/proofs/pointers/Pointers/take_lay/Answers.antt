@@ -1,12 +1,16 @@
-use Rattle.std.proofs.Common.{rules, ◌≡◌, ℕ, ◌++◌, min, All, Option, arith, ap, subst, sym, ◌∙◌}
+use Rattle.std.proofs.Common.{rules, ◌≡◌, ℕ, ◌++◌, min, true, false, length, All, Option, Result, Ok, Err, arith, ap, subst, sym, refl, ◌∙◌, inl, inr}
+use Rattle.std.specs.Result.{OnErr}
+use Rattle.std.proofs.lemmas.List.{nil_from_length}
+use Rattle.tap_register.specs.Stamp.{HasGivenAtMost}
 use Rattle.tap_pointer.specs.declared.hop.Hop.{Hop}
-use Rattle.tap_pointer.specs.Pointers.{IsHeldFrom, IsPairState, PointersValue, held_or_laid_count, pair_of, pointer_at, state_among, with_lay}
-use Rattle.tap_pointer.specs.Reconcile.{AreLaid, layings, lays_numbered, relaid, wanted_hop}
+use Rattle.tap_pointer.specs.Pointers.{IsHeldFrom, IsNewSender, IsPairState, PointersValue, held_or_laid_count, lay_applied, pair_of, pointer_at, state_among, with_lay}
+use Rattle.tap_pointer.specs.Reconcile.{AreLaid, layings, lays_numbered, reconcile_lays, relaid, wanted_hop}
 use Rattle.tap_pointer.proofs.Known.{count_from, count_to, known-among, known-laid, known-with_lay, put_keeps}
+use Rattle.tap_pointer.proofs.Layings.{length-lays_numbered}
 use Rattle.tap_pointer.proofs.Lowest.{from-among, from-laid, from-lower, from-put, from-with_lay}
 use Rattle.tap_pointer.proofs.Relaying.{relaid-lays, relaid-pairs}
 use Rattle.tap_pointer.proofs.pointers.Pointers.take_lay.Goals as goal
-use Rattle.tap_pointer.proofs.pointers.Pointers.take_lay.Goals.{After-count_after-self-inside}
+use Rattle.tap_pointer.proofs.pointers.Pointers.take_lay.Goals.{After-count_after-self-inside, After-push_layings}
 
 pub take_and_lay-requires-clause-levels : goal.take_and_lay-requires-clause-levels
 take_and_lay-requires-clause-levels c =
@@ -97,3 +101,79 @@ returns-clause-after c =
     rw (← c.self.view_is)
     (ap (λ pairs. record { owner = c.self.inside.owner; pairs = pairs })
     (c.in_ok-relaid.ensures.after ∙ relaid-pairs t before pair c.args.from c.args.version pointer c.take_and_lay.ensures.ordered laid))
+
+-- the Lays that are due are those of the pair
+lays_due : (c : After-push_layings) → reconcile_lays c.args.table.now c.args.stamp.now
+    (lay_applied c.args.self.now (pair_of c.args.object c.args.server) c.args.from c.args.version (pointer_at c.args.level c.args.on))
+    ≡ lays_numbered c.args.stamp.now
+    (layings (pair_of c.args.object c.args.server) c.in_ok-relaid.relaid.from c.in_ok-relaid.relaid.to)
+lays_due c =
+    let t = c.args.table.now in
+    let pair = pair_of c.args.object c.args.server in
+    let pointer = pointer_at c.args.level c.args.on in
+    let stamp = c.args.stamp.now in
+    let before : PointersValue = record { owner = c.self.inside.owner; pairs = c.self.inside.pairs.entries } in
+    let laid = subst (AreLaid t) (sym c.self.view_is) c.requires.laid in
+    let relaid = c.in_ok-relaid.relaid in
+    let lays = λ (from to : Option Hop). lays_numbered stamp (layings pair from to) in
+    rw (← c.self.view_is)
+    (relaid-lays t before pair c.args.from c.args.version pointer c.take_and_lay.ensures.ordered laid stamp
+    ∙ sym (ap (λ from. lays from relaid.to) c.in_ok-relaid.ensures.from
+    ∙ ap (λ to. lays (state_among before.pairs pair).laid to) c.in_ok-relaid.ensures.to))
+
+few_due : (c : After-push_layings) → length (reconcile_lays c.args.table.now c.args.stamp.now
+    (lay_applied c.args.self.now (pair_of c.args.object c.args.server) c.args.from c.args.version (pointer_at c.args.level c.args.on)))
+    ≡ length (layings (pair_of c.args.object c.args.server) c.in_ok-relaid.relaid.from c.in_ok-relaid.relaid.to)
+few_due c =
+    ap length (lays_due c)
+    ∙ length-lays_numbered c.args.stamp.now
+    (layings (pair_of c.args.object c.args.server) c.in_ok-relaid.relaid.from c.in_ok-relaid.relaid.to)
+
+given : (c : After-push_layings) → HasGivenAtMost (length (reconcile_lays c.args.table.now c.args.stamp.now
+    (lay_applied c.args.self.now (pair_of c.args.object c.args.server) c.args.from c.args.version (pointer_at c.args.level c.args.on))))
+    c.args.stamp.now c.push_layings.new.stamp
+given c =
+    subst (λ n. HasGivenAtMost n c.args.stamp.now c.push_layings.new.stamp) (sym (few_due c)) c.push_layings.ensures.given
+
+pub returns-in_err-push_layings-clause-given : goal.returns-in_err-push_layings-clause-given
+returns-in_err-push_layings-clause-given c = given (goal.at.returns-in_err-push_layings-clause-given c).After-push_layings
+
+pub returns-clause-given : goal.returns-clause-given
+returns-clause-given c = given (goal.at.returns-clause-given c).After-push_layings
+
+pub returns-in_err-push_layings-clause-none_due : goal.returns-in_err-push_layings-clause-none_due
+returns-in_err-push_layings-clause-none_due c none =
+    let due = few_due (goal.at.returns-in_err-push_layings-clause-none_due c).After-push_layings in
+    let few = ap length none in
+    let wrong : false ≡ true = c.in_err-push_layings.ensures.none
+    (nil_from_length (layings (pair_of c.args.object c.args.server) c.in_ok-relaid.relaid.from c.in_ok-relaid.relaid.to) (sym due ∙ few)) in
+    absurd (cc)
+
+-- what holds anyhow holds after a refusal
+after_refusal : {X E P : Type 0} (answer : Result X E) → P → OnErr answer P
+after_refusal (Ok x) holds = tt
+after_refusal (Err e) holds = holds
+
+-- the Lay is taken, and the pair is laid as wanted
+pub returns-in_err-push_layings-clause-refused : goal.returns-in_err-push_layings-clause-refused
+returns-in_err-push_layings-clause-refused c =
+    let t = c.args.table.now in
+    let pair = pair_of c.args.object c.args.server in
+    let pointer = pointer_at c.args.level c.args.on in
+    let before : PointersValue = record { owner = c.self.inside.owner; pairs = c.self.inside.pairs.entries } in
+    let laid = subst (AreLaid t) (sym c.self.view_is) c.requires.laid in
+    after_refusal _ (inr (rw (← c.self.view_is)
+    (ap (λ pairs. record { owner = c.self.inside.owner; pairs = pairs })
+    (c.in_ok-relaid.ensures.after ∙ relaid-pairs t before pair c.args.from c.args.version pointer c.take_and_lay.ensures.ordered laid))))
+
+-- nothing is done
+pub returns-in_err-relaid-clause-refused : goal.returns-in_err-relaid-clause-refused
+returns-in_err-relaid-clause-refused c =
+    after_refusal c.from_residual.result
+    (inl (ap (λ pairs. record { owner = c.self.inside.owner; pairs = pairs }) c.in_err-relaid.ensures.same ∙ c.self.view_is, refl))
+
+pub returns-in_err-relaid-clause-none_due : goal.returns-in_err-relaid-clause-none_due
+returns-in_err-relaid-clause-none_due c none =
+    after_refusal c.from_residual.result
+    (subst (λ (p : PointersValue). IsNewSender p (pair_of c.args.object c.args.server) c.args.from) c.self.view_is
+    c.in_err-relaid.ensures.new_sender)
