@@ -1,4 +1,5 @@
-ghost use Rattle.std.specs.Prelude.{◌≡◌, [], IfOk, OnOk, OnErr};
+ghost use Rattle.std.specs.Prelude.{◌≡◌, false, [], IfOk, OnOk, OnErr};
+ghost use Rattle.tap_table.specs.Levels.{is_kept};
 ghost use Rattle.tap_multicast.specs.Covers.{MayCover, cover_of, covered, level_kept, with_cover};
 
 use crate::cover::Cover;
@@ -80,7 +81,8 @@ impl Covers {
     ///
     /// The joiner is pinned in the table. Its prefix is at most the level, and at most the number of digits that
     /// it shares with the owner; the level is at most the number of digits of a name. Each slot of the watch has a
-    /// level at most the prefix, and a digit below the base. If memory is refused, nothing changes.
+    /// level at most the prefix, and a digit below the base. If memory is refused, nothing changes; where the answer is
+    /// `Already`, none is wanted.
     pub fn cover(
         &mut self,
         joiner: Name,
@@ -93,6 +95,8 @@ impl Covers {
         ensures answer { IfOk result (λ turn. turn ≡ covered self.old table.now watch.now joiner prefix level) }
         ensures after { OnOk result (self.new ≡ with_cover self.old joiner level) }
         ensures same { OnErr result (self.new ≡ self.old) }
+        // Where the answer is `Already`, no memory is wanted.
+        ensures known { OnErr result (is_kept (level_kept self.old joiner) level ≡ false) }
     {
         let kept = self.level_of(joiner);
         if is_kept(kept, level) {

@@ -122,10 +122,8 @@ pub(crate) fn left_watch(
     if cover.first {
         return unanswered(alloc, table, watch, cover);
     }
-    match watch.copy() {
-        Ok(left) => Ok(left),
-        Err(_) => Err(NoMemory),
-    }
+    let left = watch.as_slice().to_vec(alloc)?;
+    Ok(Watch::from_vec(left))
 }
 
 // The slots of a watch that the owner of the table doesn't answer.
