@@ -4,5 +4,6 @@ pub mod Sender
 pub mod StepsAs
 pub mod SoundNode
 pub mod States
+pub mod Bodies
 pub mod Pointing
 pub mod Strangers

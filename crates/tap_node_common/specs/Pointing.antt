@@ -4,10 +4,6 @@
 use Rattle.std.specs.Prelude.{◌≡◌, ℕ, List}
 use Rattle.tap_table.specs.Table.{TableValue}
 use Rattle.tap_pointer.specs.Pointers.{PointersValue, lay_applied, pair_of, pointer_at}
-use Rattle.tap_wire.specs.declared.frame.Body.{Body}
-use Rattle.tap_wire.specs.declared.kind.Kind.{Kind}
-use Rattle.tap_wire.specs.declared.kind.Kind.TheVariants.{Lay, Find}
-use Rattle.tap_wire.specs.Kind.{kind_of}
 use Rattle.tap_rule.specs.Node.{NodeState}
 use Rattle.tap_rule.specs.Reaction.{Reaction}
 use Rattle.tap_node_common.specs.declared.news.News.{News}
@@ -23,18 +19,3 @@ lay_taken pointers lay = lay_applied pointers (pair_of lay.object lay.server) la
 abbrev pub EachStepsAs : TableValue → PointersValue → (NodeState → Reaction) → List (List ℕ) → List (List ℕ) → News → Type 0
 EachStepsAs t pointers rule before sent news =
     (node : NodeState) → node.ties.table ≡ t → node.pointers ≡ pointers → StepsAs node (rule node) node before sent news
-
--- a Lay, and a Find
-abbrev IsLayKind : Kind → Type 0
-IsLayKind Lay = Unit {0}
-IsLayKind other = ⊥
-
-abbrev pub IsLayBody : Body → Type 0
-IsLayBody body = IsLayKind (kind_of body)
-
-abbrev IsFindKind : Kind → Type 0
-IsFindKind Find = Unit {0}
-IsFindKind other = ⊥
-
-abbrev pub IsFindBody : Body → Type 0
-IsFindBody body = IsFindKind (kind_of body)

@@ -1,6 +1,7 @@
 use std::alloc::{AllocError, AllocFailed};
 use std::error::Error;
 use std::fmt;
+use tap_table::Ties;
 
 /// Memory was refused.
 ///
@@ -36,6 +37,13 @@ impl From<tap_session::NoMemory> for NoMemory {
 
 impl From<tap_table::NoMemory> for NoMemory {
     fn from(_: tap_table::NoMemory) -> NoMemory {
+        NoMemory
+    }
+}
+
+// The ties of a node that leaves: whoever is refused the memory for its notices gives them back.
+impl From<Ties> for NoMemory {
+    fn from(_: Ties) -> NoMemory {
         NoMemory
     }
 }

@@ -1,6 +1,7 @@
 ghost use Rattle.std.specs.Prelude.{◌≡◌, ℕ, List, [], ◌∷◌, ◌++◌, map, OnOk};
 ghost use Rattle.tap_rule.specs.Reaction.{message, to_each};
 ghost use Rattle.tap_rule.specs.Sending.{lay_frame, message_frame};
+ghost use Rattle.tap_node_common.specs.Bodies.{IsCastBody};
 ghost use Rattle.tap_node_common.specs.Spellings.{HaveSpellings, spelled};
 ghost use Rattle.tap_node_common.specs.Targets.{cast_to, tell_to};
 
@@ -136,11 +137,13 @@ fn at_level(fields: &TellFields, level: u8) -> TellFields
 
 // Gives a Cast another level.
 fn set_level(body: &mut Body, level: u8)
+    requires { IsCastBody body.old }
     ensures { (cast other session depth : ℕ) (word : List ℕ) → body.old ≡ Body.Cast cast other session depth word
         → body.new ≡ Body.Cast cast level session depth word }
 {
-    if let Body::Cast { level: place, .. } = body {
-        *place = level;
+    match body {
+        Body::Cast { level: place, .. } => *place = level,
+        _ => unreachable!(),
     }
 }
 
