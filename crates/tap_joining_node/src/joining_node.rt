@@ -122,8 +122,8 @@ impl JoiningNode {
                 Ok(())
             }
             Body::Cast { session, .. } => self.on_cast(sent, frame.from, *session),
+            Body::Done => unreachable!(),
             Body::Seek { .. }
-            | Body::Done
             | Body::Lay { .. }
             | Body::Find { .. }
             | Body::Answer { .. }

@@ -12,7 +12,7 @@ ghost use Rattle.tap_rule.specs.Pointers.{reconciles, takes_find, takes_lay};
 ghost use Rattle.tap_rule.specs.Reaction.{sends};
 ghost use Rattle.tap_wire.specs.declared.frame.Body.TheVariants as bodies;
 ghost use Rattle.tap_wire.specs.Spelling.{IsLevel};
-ghost use Rattle.tap_node_common.specs.Pointing.{IsFindBody, IsLayBody};
+ghost use Rattle.tap_node_common.specs.Bodies.{IsFindBody, IsLayBody};
 ghost use Rattle.tap_node_common.specs.Sender.{message_bytes, sender_of};
 ghost use Rattle.tap_node_common.specs.SoundNode.{AreNamedHops, IsSoundNode, MayTake, PairsHaveNames, has_numbers_left};
 ghost use Rattle.tap_node_common.specs.States.{core_state_of, ended_state};
@@ -55,14 +55,12 @@ impl LeavingNode {
     {
         let mut parts = parts;
         parts.pointers.drop_all();
-        match Leaving::start(alloc, core.leave()) {
-            Ok(leaving) => Ok(LeavingNode {
-                alloc,
-                leaving,
-                parts,
-            }),
-            Err(_) => Err(NoMemory),
-        }
+        let leaving = Leaving::start(alloc, core.leave())?;
+        Ok(LeavingNode {
+            alloc,
+            leaving,
+            parts,
+        })
     }
 
     // Who sends its frames.
@@ -109,6 +107,7 @@ impl LeavingNode {
                 };
                 Ok(())
             }
+            Body::Left => unreachable!(),
             Body::Seek { .. }
             | Body::Tell { .. }
             | Body::Hello { .. }
@@ -117,7 +116,6 @@ impl LeavingNode {
             | Body::Done
             | Body::Release
             | Body::Leave { .. }
-            | Body::Left
             | Body::Gone
             | Body::Forget
             | Body::Cast { .. }
@@ -158,7 +156,7 @@ impl LeavingNode {
             on,
         } = &frame.body
         else {
-            return Ok(());
+            unreachable!()
         };
         let lay = TakenLay {
             from,
@@ -185,7 +183,7 @@ impl LeavingNode {
             level,
         } = &frame.body
         else {
-            return Ok(());
+            unreachable!()
         };
         let find = TakenFind {
             ticket: *ticket,
