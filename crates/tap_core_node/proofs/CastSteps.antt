@@ -1,5 +1,5 @@
 -- The steps of casts, from the frames that were added.
-use Rattle.std.proofs.Common.{◌≡◌, ◌==◌, ℕ, ◌+◌, ◌<◌, ◌≤◌, Bool, true, false, List, [], ◌∷◌, ◌++◌, length, map, filter, Option, None, Some, All, arith, refl, ap, ◌∙◌, eqb-true, inl, inr}
+use Rattle.std.proofs.Common.{◌≡◌, ◌==◌, ℕ, ◌+◌, ◌<◌, ◌≤◌, Bool, true, false, List, [], ◌∷◌, ◌++◌, length, map, filter, Option, None, Some, All, arith, refl, ap, subst, ◌∙◌, eqb-true, inl, inr}
 use Rattle.std.specs.List.{flat_map}
 use Rattle.std.specs.Option.{is_none}
 use Rattle.std.proofs.lemmas.Bool.{cases_Bool, true≢false}
@@ -12,8 +12,9 @@ use Rattle.tap_link.specs.Entry.{LinkEntry}
 use Rattle.tap_link.specs.LinkSet.{is_pinned, least_settled}
 use Rattle.tap_session.specs.declared.parent.Parent.{Parent}
 use Rattle.tap_session.specs.declared.sessions.Answered.TheVariants.{Open, Closed, Unknown}
-use Rattle.tap_session.specs.Session.{SessionsValue}
-use Rattle.tap_session.specs.Sessions.{answer_to, answered_at, session_of}
+use Rattle.tap_session.specs.Session.{Session, SessionsValue}
+use Rattle.tap_session.specs.Sessions.{AreSessions, answer_to, answered_at, session_of}
+use Rattle.tap_session.proofs.Transitions.{All-found}
 use Rattle.tap_table.specs.ByName.{by_name, slots_by_name}
 use Rattle.tap_table.specs.Levels.{is_between, is_kept, sent_from}
 use Rattle.tap_table.specs.Table.{IsTable, SlotLinks, TableValue, links_at, rows}
@@ -95,6 +96,18 @@ module _ (node : NodeState) (copy : Copy) (kept : CastsValue) (before sent : Lis
       rw (is, opened, same) (messages_step node
       (with_cast_session (record node { casts = with_cast node.casts copy.cast copy.level }) copy (length (target ∷ targets)))
       (map (cast_for copy (next_cast_session node)) (target ∷ targets)) (cast_news copy.cast first false) before sent sends)
+
+-- a session that closes was given its number
+closed_session : (found : Option Session) (parent : Parent) → answer_to found ≡ Closed parent → (s : Session) × (found ≡ Some s)
+closed_session None parent closed = cc
+closed_session (Some s) parent closed = (s, refl)
+
+pub closed_given : (s : SessionsValue) → AreSessions s → (id : ℕ) (parent : Parent) → answer_to (session_of s.sessions id) ≡ Closed parent
+    → (1 ≤ id) × (id ≤ s.opened)
+closed_given s are id parent closed =
+    let found = closed_session (session_of s.sessions id) parent closed in
+    let given = All-found (λ a. (1 ≤ a.id) × (a.id ≤ s.opened)) s.sessions id found.0 are.given found.1 in
+    (subst (λ n. 1 ≤ n) given.1 given.0.0, subst (λ n. n ≤ s.opened) given.1 given.0.1)
 
 -- an answer in a session of casts: the last one, another one, and one in no session
 module _ (node : NodeState) (session : ℕ) (sessions : SessionsValue) (before : List (List ℕ))

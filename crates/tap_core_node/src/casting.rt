@@ -160,12 +160,13 @@ impl CoreNode {
     }
 }
 
-// The cast of a session.
+// The cast of a session that was opened, by its number, from 1.
 fn cast_of(numbers: &[u32], session: u32) -> u32
+    requires given { 1 ≤ session }
+    requires within { session ≤ length numbers.now }
     ensures { result ≡ slice_index_or numbers.now (session - 1) 0 }
 {
-    let at = (session as usize).saturating_sub(1);
-    if at < numbers.len() { numbers[at] } else { 0 }
+    numbers[session as usize - 1]
 }
 
 // Whether a parent is the root: then the cast is closed, and nobody is answered.

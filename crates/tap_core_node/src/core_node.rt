@@ -1,6 +1,5 @@
-ghost use Rattle.std.specs.Prelude.{◌≡◌, ◌≢◌, ℕ, ◌+◌, ◌*◌, ◌<◌, ◌≤◌, Bool, true, Some, List, ◌++◌, All, Contains, IfOk, IfSome, OnOk};
+ghost use Rattle.std.specs.Prelude.{◌≡◌, ◌≢◌, ℕ, ◌+◌, ◌*◌, ◌<◌, ◌≤◌, true, Some, List, ◌++◌, All, Contains, IfOk, IfSome, OnOk};
 ghost use Rattle.tap_name.specs.Distinct.{AreDistinct};
-ghost use Rattle.tap_name.specs.declared.slot.Slot.{Slot};
 ghost use Rattle.tap_name.specs.Name.{IsName};
 ghost use Rattle.tap_pointer.specs.Pointers.{held_or_laid_count, pair_of};
 ghost use Rattle.tap_pointer.specs.Reconcile.{AreLaidBeside, AreLaidBut};
@@ -11,11 +10,12 @@ ghost use Rattle.tap_rule.specs.Links.{takes_forget, takes_link, takes_release};
 ghost use Rattle.tap_rule.specs.Node.{member_at_rest};
 ghost use Rattle.tap_rule.specs.Pointers.{lays_due, starts_find, starts_publish, starts_withdraw, takes_find, takes_lay, with_reconciled};
 ghost use Rattle.tap_wire.specs.Spelling.{IsLevel};
+ghost use Rattle.tap_node_common.specs.Bodies.{IsCastBody, IsFindBody, IsLayBody, IsTellBody};
 ghost use Rattle.tap_node_common.specs.Sender.{lay_bytes, sender_of};
 ghost use Rattle.tap_node_common.specs.SoundNode.{AreNamedHops, IsSoundNode, MayTake, PairsHaveNames, has_numbers_left};
 ghost use Rattle.tap_node_common.specs.States.{newly_core};
 ghost use Rattle.tap_node_common.specs.StepsAs.{FollowsAs};
-ghost use Rattle.tap_core_node.specs.Primaries.{IsLevelOfLeave, has_other_primary};
+ghost use Rattle.tap_core_node.specs.Primaries.{IsLevelOfLeave, has_other_primary, level_of_leave};
 ghost use Rattle.tap_core_node.specs.State.{core_state};
 
 use crate::casting::CastCopy;
@@ -144,9 +144,9 @@ impl CoreNode {
 
     // Takes a Tell.
     fn on_tell(&mut self, frame: &Frame, sent: &mut FrameList) -> Result<(), NoMemory>
-        requires { MayTake (core_state self.old) frame.now }
-        ensures { (joiner : List ℕ) (prefix level session depth : ℕ) (watch : List Slot) → frame.now.body ≡ Body.Tell joiner prefix level session depth watch
-            → OnOk result (FollowsAs (core_state self.old)
+        requires may { MayTake (core_state self.old) frame.now }
+        requires kind { IsTellBody frame.now.body }
+        ensures { OnOk result (FollowsAs (core_state self.old)
             (frame_at_core (core_state self.old) frame.now.from frame.now.body) (core_state self.new) sent.old sent.new News.Nothing) }
     {
         let from = frame.from;
@@ -159,7 +159,7 @@ impl CoreNode {
             watch,
         } = &frame.body
         else {
-            return Ok(());
+            unreachable!()
         };
         let parent = Parent::Node {
             name: from,
@@ -315,9 +315,9 @@ impl CoreNode {
 
     // Takes a Lay.
     fn on_lay(&mut self, frame: &Frame, sent: &mut FrameList) -> Result<(), NoMemory>
-        requires { MayTake (core_state self.old) frame.now }
-        ensures { (object server : List ℕ) (level version : ℕ) (on : Bool) → frame.now.body ≡ Body.Lay object server level version on
-            → OnOk result (FollowsAs (core_state self.old)
+        requires may { MayTake (core_state self.old) frame.now }
+        requires kind { IsLayBody frame.now.body }
+        ensures { OnOk result (FollowsAs (core_state self.old)
             (frame_at_core (core_state self.old) frame.now.from frame.now.body) (core_state self.new) sent.old sent.new News.Nothing) }
     {
         let from = frame.from;
@@ -329,7 +329,7 @@ impl CoreNode {
             on,
         } = &frame.body
         else {
-            return Ok(());
+            unreachable!()
         };
         let lay = TakenLay {
             from,
@@ -344,9 +344,9 @@ impl CoreNode {
 
     // Takes a Find.
     fn on_find(&mut self, frame: &Frame, sent: &mut FrameList) -> Result<(), NoMemory>
-        requires { MayTake (core_state self.old) frame.now }
-        ensures { (ticket : ℕ) (object asker : List ℕ) (level : ℕ) → frame.now.body ≡ Body.Find ticket object asker level
-            → OnOk result (FollowsAs (core_state self.old)
+        requires may { MayTake (core_state self.old) frame.now }
+        requires kind { IsFindBody frame.now.body }
+        ensures { OnOk result (FollowsAs (core_state self.old)
             (frame_at_core (core_state self.old) frame.now.from frame.now.body) (core_state self.new) sent.old sent.new News.Nothing) }
     {
         let Body::Find {
@@ -356,7 +356,7 @@ impl CoreNode {
             level,
         } = &frame.body
         else {
-            return Ok(());
+            unreachable!()
         };
         let find = TakenFind {
             ticket: *ticket,
@@ -464,9 +464,9 @@ impl CoreNode {
         news: &mut News,
     ) -> Result<(), NoMemory>
         requires may { MayTake (core_state self.old) frame.now }
+        requires kind { IsCastBody frame.now.body }
         requires nothing { news.old ≡ News.Nothing }
-        ensures { (cast level session depth : ℕ) (word : List ℕ) → frame.now.body ≡ Body.Cast cast level session depth word
-            → OnOk result (FollowsAs (core_state self.old)
+        ensures { OnOk result (FollowsAs (core_state self.old)
             (frame_at_core (core_state self.old) frame.now.from frame.now.body) (core_state self.new) sent.old sent.new news.new) }
     {
         let from = frame.from;
@@ -478,7 +478,7 @@ impl CoreNode {
             word,
         } = &frame.body
         else {
-            return Ok(());
+            unreachable!()
         };
         let parent = Parent::Node {
             name: from,
@@ -558,9 +558,10 @@ fn has_other_primary(table: &Table, name: &Name) -> bool
     }
 }
 
-// The level of the slot of a leaver, if its replacement stands at this level too, or there is none.
+// The level of the slot of a leaver, unless a replacement stands at another level.
 fn level_of_leave(table: &Table, leaver: &Name, replacement: &Option<Name>) -> Option<u8>
-    ensures { IfSome result (IsLevelOfLeave table.now leaver.now replacement.now) }
+    ensures value { result ≡ level_of_leave table.now leaver.now replacement.now }
+    ensures level { IfSome result (IsLevelOfLeave table.now leaver.now replacement.now) }
 {
     let owner = table.owner();
     let level = owner.lcp(leaver);

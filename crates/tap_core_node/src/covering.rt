@@ -10,6 +10,7 @@ ghost use Rattle.tap_rule.specs.Reaction.{message};
 ghost use Rattle.tap_rule.specs.Strange.{most_depth};
 ghost use Rattle.tap_wire.specs.Layout.{most_links, most_slots};
 ghost use Rattle.tap_wire.specs.Spelling.{AreLinks, AreSlots};
+ghost use Rattle.tap_node_common.specs.Bodies.{IsSeekBody};
 ghost use Rattle.tap_node_common.specs.Sender.{message_bytes};
 ghost use Rattle.tap_node_common.specs.SoundNode.{IsParent, IsSoundNode, MayTake, has_numbers_left};
 ghost use Rattle.tap_node_common.specs.StepsAs.{FollowsAs, StepsAs};
@@ -39,12 +40,13 @@ pub(crate) struct Request {
 impl CoreNode {
     // Takes a Seek: it goes on to the primary of the joiner's slot, or else the node is the joiner's surrogate.
     pub(crate) fn on_seek(&mut self, frame: &Frame, sent: &mut FrameList) -> Result<(), NoMemory>
-        requires { MayTake (core_state self.old) frame.now }
-        ensures { (joiner : List ℕ) → frame.now.body ≡ Body.Seek joiner → OnOk result (FollowsAs (core_state self.old)
+        requires may { MayTake (core_state self.old) frame.now }
+        requires kind { IsSeekBody frame.now.body }
+        ensures { OnOk result (FollowsAs (core_state self.old)
             (frame_at_core (core_state self.old) frame.now.from frame.now.body) (core_state self.new) sent.old sent.new News.Nothing) }
     {
         let Body::Seek { joiner } = &frame.body else {
-            return Ok(());
+            unreachable!()
         };
         let joiner = *joiner;
         match self.core.seek(&joiner) {

@@ -11,4 +11,4 @@ note_cast-requires-clause-depth c =
 
 pub returns : goal.returns
 unfolding frame_at_core
-returns c = λ cast level session depth word is. rw c.in-Cast.is (rw c.as_slice.ensures at c.note_cast.ensures)
+returns c = rw c.in-Cast.is (rw c.as_slice.ensures at c.note_cast.ensures)

@@ -5,7 +5,7 @@ use Rattle.tap_node_common.specs.declared.news.News.TheVariants.{Nothing}
 use Rattle.tap_node_common.specs.StepsAs.{news_seen}
 use Rattle.tap_node_common.proofs.Parents.{closed_parent}
 use Rattle.tap_core_node.specs.State.{core_state}
-use Rattle.tap_core_node.proofs.CastSteps.{cast_closed, cast_open, cast_unknown}
+use Rattle.tap_core_node.proofs.CastSteps.{cast_closed, cast_open, cast_unknown, closed_given}
 use Rattle.tap_core_node.proofs.Followed.{cast_answered_quiet, follows_quiet}
 use Rattle.tap_core_node.proofs.core_node.CoreNode.on_cast_ack.Goals as goal
 
@@ -14,6 +14,19 @@ answer_cast-requires-clause-parent c =
     let node : NodeState = core_state c.args.self.now in
     rw c.sender.ensures.value (closed_parent (settings_of node) node.cast_sessions c.args.session c.in-Closed.parent c.requires.sound.cast_parents
     (sym c.answered.ensures.answer ∙ c.in-Closed.is))
+
+pub cast_of-cast-requires-clause-given : goal.cast_of-cast-requires-clause-given
+cast_of-cast-requires-clause-given c =
+    let node : NodeState = core_state c.args.self.now in
+    (closed_given node.cast_sessions c.requires.sound.valid.cast_sessions c.args.session c.in-Closed.parent
+    (sym c.answered.ensures.answer ∙ c.in-Closed.is)).0
+
+pub cast_of-cast-requires-clause-within : goal.cast_of-cast-requires-clause-within
+cast_of-cast-requires-clause-within c =
+    let node : NodeState = core_state c.args.self.now in
+    let given = closed_given node.cast_sessions c.requires.sound.valid.cast_sessions c.args.session c.in-Closed.parent
+    (sym c.answered.ensures.answer ∙ c.in-Closed.is) in
+    rw (c.as_slice.ensures.value, c.requires.sound.valid.cast_numbers) given.1
 
 pub returns-in_ok-answer_cast-in-Closed : goal.returns-in_ok-answer_cast-in-Closed
 returns-in_ok-answer_cast-in-Closed c =

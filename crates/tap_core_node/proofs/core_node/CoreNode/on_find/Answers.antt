@@ -3,4 +3,4 @@ use Rattle.tap_core_node.proofs.core_node.CoreNode.on_find.Goals as goal
 
 pub returns : goal.returns
 unfolding frame_at_core
-returns c = λ ticket object asker level is. rw c.in-Find.is c.route_find.ensures
+returns c = rw c.in-Find.is c.route_find.ensures

@@ -3,4 +3,4 @@ use Rattle.tap_core_node.proofs.core_node.CoreNode.on_lay.Goals as goal
 
 pub returns : goal.returns
 unfolding frame_at_core
-returns c = λ object server level version on is. rw c.in-Lay.is c.apply_lay.ensures
+returns c = rw c.in-Lay.is c.apply_lay.ensures

@@ -16,7 +16,7 @@ pub reconcile_beside-requires-clause-others : goal.reconcile_beside-requires-cla
 reconcile_beside-requires-clause-others c =
     let node : NodeState = core_state c.args.self.now in
     let level : IfSome c.level_of_leave-level.result (IsLevelOfLeave node.ties.table c.args.from c.args.replacement) =
-    rw (c.table-2.ensures.value, c.ties-2.ensures) at c.level_of_leave-level.ensures in
+    rw (c.table-2.ensures.value, c.ties-2.ensures) at c.level_of_leave-level.ensures.level in
     let ties : c.told_leave.new.ties ≡ told_leave node.ties c.args.from c.args.replacement =
     rw c.ties_mut.ensures.value at c.in_ok-word.ensures.after in
     rw ties (laid-leave_at node.ties c.args.from c.requires.sound.valid.ties.table c.requires.name c.requires.other node.pointers

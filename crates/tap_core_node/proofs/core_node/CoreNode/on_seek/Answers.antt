@@ -9,40 +9,40 @@ use Rattle.tap_core_node.proofs.Pins.{at_surrogate, sent_on}
 use Rattle.tap_core_node.proofs.core_node.CoreNode.on_seek.Goals as goal
 
 pub seek-requires-clause-name : goal.seek-requires-clause-name
-seek-requires-clause-name c = seeker_name (core_state c.args.self.now) c.args.frame.now c.requires c.in-Seek.joiner c.in-Seek.is
+seek-requires-clause-name c = seeker_name (core_state c.args.self.now) c.args.frame.now c.requires.may c.in-Seek.joiner c.in-Seek.is
 
 pub seek-requires-clause-other : goal.seek-requires-clause-other
-seek-requires-clause-other c = seeker_apart (core_state c.args.self.now) c.args.frame.now c.requires c.in-Seek.joiner c.in-Seek.is
+seek-requires-clause-other c = seeker_apart (core_state c.args.self.now) c.args.frame.now c.requires.may c.in-Seek.joiner c.in-Seek.is
 
 pub send-requires-clause-to : goal.send-requires-clause-to
 send-requires-clause-to c =
-    rw c.sender.ensures.value (next_named (core_state c.args.self.now) c.args.frame.now c.requires c.in-Seek.joiner c.in-Seek.is
+    rw c.sender.ensures.value (next_named (core_state c.args.self.now) c.args.frame.now c.requires.may c.in-Seek.joiner c.in-Seek.is
     c.in-Forward.next (sym c.seek.ensures ∙ c.in-Forward.is))
 
 pub send-requires-clause-body : goal.send-requires-clause-body
 send-requires-clause-body c =
-    rw c.sender.ensures.value (seeker_name (core_state c.args.self.now) c.args.frame.now c.requires c.in-Seek.joiner c.in-Seek.is)
+    rw c.sender.ensures.value (seeker_name (core_state c.args.self.now) c.args.frame.now c.requires.may c.in-Seek.joiner c.in-Seek.is)
 
 pub returns-in_ok-send-in-Forward : goal.returns-in_ok-send-in-Forward
 unfolding frame_at_core
 returns-in_ok-send-in-Forward c =
     let node : NodeState = core_state c.args.self.now in
-    λ joiner is. rw c.in-Seek.is (sent_on node c.requires.sound refl c.args.sent.now c.in-Seek.joiner
-    (seeker_name node c.args.frame.now c.requires c.in-Seek.joiner c.in-Seek.is)
-    (seeker_apart node c.args.frame.now c.requires c.in-Seek.joiner c.in-Seek.is) c.in-Forward.next _
+    rw c.in-Seek.is (sent_on node c.requires.may.sound refl c.args.sent.now c.in-Seek.joiner
+    (seeker_name node c.args.frame.now c.requires.may c.in-Seek.joiner c.in-Seek.is)
+    (seeker_apart node c.args.frame.now c.requires.may c.in-Seek.joiner c.in-Seek.is) c.in-Forward.next _
     (sym c.seek.ensures ∙ c.in-Forward.is) (rw c.sender.ensures.value at c.in_ok-send-in-Forward.ensures))
 
 pub full-requires-clause-is_name : goal.full-requires-clause-is_name
 full-requires-clause-is_name c =
     let node : NodeState = core_state c.args.self.now in
     rw (c.settings-settings.ensures.value, c.table.ensures.value, c.ties.ensures)
-    (seeker_name node c.args.frame.now c.requires c.in-Seek.joiner c.in-Seek.is)
+    (seeker_name node c.args.frame.now c.requires.may c.in-Seek.joiner c.in-Seek.is)
 
 pub full-requires-clause-within : goal.full-requires-clause-within
 full-requires-clause-within c =
     let node : NodeState = core_state c.args.self.now in
     rw (c.settings-settings.ensures.value, c.table.ensures.value, c.ties.ensures)
-    (surrogate_within node c.args.frame.now c.requires c.in-Seek.joiner c.in-Seek.is c.in-Surrogate.prefix
+    (surrogate_within node c.args.frame.now c.requires.may c.in-Seek.joiner c.in-Seek.is c.in-Surrogate.prefix
     (sym c.seek.ensures ∙ c.in-Surrogate.is))
 
 pub pin_and_cover-requires-clause-name : goal.pin_and_cover-requires-clause-name
@@ -50,7 +50,7 @@ pin_and_cover-requires-clause-name c =
     let node : NodeState = core_state c.args.self.now in
     let full = rw (c.settings-settings.ensures.value, c.table.ensures.value, c.ties.ensures) at c.in_ok-watch-in-Surrogate.ensures.slots in
     let may : MayBeCovered node c.in-Seek.joiner c.in-Surrogate.prefix c.in-Surrogate.prefix c.in_ok-watch-in-Surrogate.watch =
-    seeker_may node c.args.frame.now c.requires c.in-Seek.joiner c.in-Seek.is c.in-Surrogate.prefix
+    seeker_may node c.args.frame.now c.requires.may c.in-Seek.joiner c.in-Seek.is c.in-Surrogate.prefix
     (sym c.seek.ensures ∙ c.in-Surrogate.is) c.in_ok-watch-in-Surrogate.watch full in
     may.is_name
 
@@ -59,7 +59,7 @@ pin_and_cover-requires-clause-other c =
     let node : NodeState = core_state c.args.self.now in
     let full = rw (c.settings-settings.ensures.value, c.table.ensures.value, c.ties.ensures) at c.in_ok-watch-in-Surrogate.ensures.slots in
     let may : MayBeCovered node c.in-Seek.joiner c.in-Surrogate.prefix c.in-Surrogate.prefix c.in_ok-watch-in-Surrogate.watch =
-    seeker_may node c.args.frame.now c.requires c.in-Seek.joiner c.in-Seek.is c.in-Surrogate.prefix
+    seeker_may node c.args.frame.now c.requires.may c.in-Seek.joiner c.in-Seek.is c.in-Surrogate.prefix
     (sym c.seek.ensures ∙ c.in-Surrogate.is) c.in_ok-watch-in-Surrogate.watch full in
     may.other
 
@@ -68,7 +68,7 @@ pin_and_cover-requires-clause-fits c =
     let node : NodeState = core_state c.args.self.now in
     let full = rw (c.settings-settings.ensures.value, c.table.ensures.value, c.ties.ensures) at c.in_ok-watch-in-Surrogate.ensures.slots in
     let may : MayBeCovered node c.in-Seek.joiner c.in-Surrogate.prefix c.in-Surrogate.prefix c.in_ok-watch-in-Surrogate.watch =
-    seeker_may node c.args.frame.now c.requires c.in-Seek.joiner c.in-Seek.is c.in-Surrogate.prefix
+    seeker_may node c.args.frame.now c.requires.may c.in-Seek.joiner c.in-Seek.is c.in-Surrogate.prefix
     (sym c.seek.ensures ∙ c.in-Surrogate.is) c.in_ok-watch-in-Surrogate.watch full in
     may.fits
 
@@ -77,7 +77,7 @@ pin_and_cover-requires-clause-slots c =
     let node : NodeState = core_state c.args.self.now in
     let full = rw (c.settings-settings.ensures.value, c.table.ensures.value, c.ties.ensures) at c.in_ok-watch-in-Surrogate.ensures.slots in
     let may : MayBeCovered node c.in-Seek.joiner c.in-Surrogate.prefix c.in-Surrogate.prefix c.in_ok-watch-in-Surrogate.watch =
-    seeker_may node c.args.frame.now c.requires c.in-Seek.joiner c.in-Seek.is c.in-Surrogate.prefix
+    seeker_may node c.args.frame.now c.requires.may c.in-Seek.joiner c.in-Seek.is c.in-Surrogate.prefix
     (sym c.seek.ensures ∙ c.in-Surrogate.is) c.in_ok-watch-in-Surrogate.watch full in
     may.slots
 
@@ -86,7 +86,7 @@ pin_and_cover-requires-clause-few c =
     let node : NodeState = core_state c.args.self.now in
     let full = rw (c.settings-settings.ensures.value, c.table.ensures.value, c.ties.ensures) at c.in_ok-watch-in-Surrogate.ensures.slots in
     let may : MayBeCovered node c.in-Seek.joiner c.in-Surrogate.prefix c.in-Surrogate.prefix c.in_ok-watch-in-Surrogate.watch =
-    seeker_may node c.args.frame.now c.requires c.in-Seek.joiner c.in-Seek.is c.in-Surrogate.prefix
+    seeker_may node c.args.frame.now c.requires.may c.in-Seek.joiner c.in-Seek.is c.in-Surrogate.prefix
     (sym c.seek.ensures ∙ c.in-Surrogate.is) c.in_ok-watch-in-Surrogate.watch full in
     may.few
 
@@ -95,7 +95,7 @@ pin_and_cover-requires-clause-parent c =
     let node : NodeState = core_state c.args.self.now in
     let full = rw (c.settings-settings.ensures.value, c.table.ensures.value, c.ties.ensures) at c.in_ok-watch-in-Surrogate.ensures.slots in
     let may : MayBeCovered node c.in-Seek.joiner c.in-Surrogate.prefix c.in-Surrogate.prefix c.in_ok-watch-in-Surrogate.watch =
-    seeker_may node c.args.frame.now c.requires c.in-Seek.joiner c.in-Seek.is c.in-Surrogate.prefix
+    seeker_may node c.args.frame.now c.requires.may c.in-Seek.joiner c.in-Seek.is c.in-Surrogate.prefix
     (sym c.seek.ensures ∙ c.in-Surrogate.is) c.in_ok-watch-in-Surrogate.watch full in
     may.is_name
 
@@ -104,7 +104,7 @@ unfolding frame_at_core
 returns-in_ok-watch-in-Surrogate c =
     let node : NodeState = core_state c.args.self.now in
     let full = rw (c.settings-settings.ensures.value, c.table.ensures.value, c.ties.ensures) at c.in_ok-watch-in-Surrogate.ensures.slots in
-    λ joiner is. rw c.in-Seek.is (IfOk-weaker c.pin_and_cover.result _ _
-    (λ _. at_surrogate node c.requires.sound refl c.args.sent.now c.in-Seek.joiner c.in-Surrogate.prefix c.in_ok-watch-in-Surrogate.watch
+    rw c.in-Seek.is (IfOk-weaker c.pin_and_cover.result _ _
+    (λ _. at_surrogate node c.requires.may.sound refl c.args.sent.now c.in-Seek.joiner c.in-Surrogate.prefix c.in_ok-watch-in-Surrogate.watch
     (sym c.seek.ensures ∙ c.in-Surrogate.is) full _ _ Nothing)
     c.pin_and_cover.ensures)
