@@ -3,6 +3,7 @@ mod Few
 mod KeptSound
 mod KeptRules
 mod KeptSteps
+mod Reading
 mod Starting
 mod Ends
 mod Started

@@ -1,9 +1,11 @@
 -- What the calls of a node answer, and how they leave it.
 --
 -- Rule: docs/PROTOCOL.md, "Steps of a node" and "Refused frames".
-use Rattle.std.specs.Prelude.{◌≡◌, ◌≢◌, ℕ, Bool, true, false, if◌then◌else◌, List, Result, Ok, Err, IsOk}
+use Rattle.std.specs.Prelude.{◌≡◌, ◌≢◌, ℕ, Bool, true, false, not, ◌&&◌, ◌||◌, if◌then◌else◌, List, Result, Ok, Err, IsOk, IsOkAnd, IsTrue}
 use Rattle.tap_wire.specs.declared.fault.WireFault.{WireFault}
+use Rattle.tap_wire.specs.declared.fault.WireFault.TheVariants as wire
 use Rattle.tap_wire.specs.declared.frame.Frame.{Frame}
+use Rattle.tap_wire.specs.Kind.{has_list, kind_of}
 use Rattle.tap_wire.specs.Reading.{frame_of}
 use Rattle.tap_rule.specs.Node.{NodeState, name_of, settings_of}
 use Rattle.tap_rule.specs.Event.{Acted, Start}
@@ -54,10 +56,21 @@ take_outcome node bytes =
 abbrev pub start_outcome : NodeValue → Start → Outcome
 start_outcome node begun = if node.ended then refused_by node Ended else acted_as node.state (act node.state (Starts begun))
 
--- memory may be wanted for bytes: the node takes steps, and they are a frame
+-- the fault of a node to which bytes aren't read as a frame, by the cause
+pub record IsFaultOf (cause : WireFault) (fault : NodeFault) : Type 0 where
+  pub memory : cause ≡ wire.NoMemory → fault ≡ NoMemory
+  pub other : cause ≢ wire.NoMemory → fault ≡ Wire cause
+
+-- a frame that a node takes: it is its own, and isn't strange to it
+unfoldable pub is_taken : NodeState → Frame → Bool
+is_taken node frame = is_own_name node frame.to && not (is_strange node frame)
+
+-- Memory may be wanted for bytes: the node takes steps, and they are a frame. It is wanted to read a frame that has a list, whosever
+-- it is, and for the step that a frame makes the node take.
 pub record MayWant (node : NodeValue) (bytes : List ℕ) : Type 0 where
   pub runs : node.ended ≡ false
   pub read : IsOk (frame_of (settings_of node.state) bytes)
+  pub wanted : IsOkAnd (frame_of (settings_of node.state) bytes) (λ frame. IsTrue (has_list (kind_of frame.body) || is_taken node.state frame))
 
 -- The answer and the node afterwards are those of an outcome, unless memory was refused, which it is only to a node that takes
 -- steps, and which ends it. The name and the settings stay.

@@ -3,6 +3,7 @@
 #![tactic(auto)]
 
 mod fault;
+mod memory;
 mod node;
 mod starts;
 mod state;

@@ -22,7 +22,7 @@ use tap_node_common::{FrameList, News, NoMemory, Sender, is_strange, is_strange_
 use tap_pointer::Pointers;
 use tap_session::Sessions;
 use tap_table::Table;
-use tap_wire::{Frame, WireFault, decode};
+use tap_wire::{Frame, decode};
 
 /// A node: one step after another, it takes frames as bytes, or starts something, and gives the frames that are then to be
 /// sent, as bytes, and the news.
@@ -54,7 +54,7 @@ impl Model for Node {
 
 impl Node {
     ghost use Rattle.tap_name.specs.Distinct.{AreDistinct};
-    ghost use Rattle.tap_node.specs.Outcome.{AnswersAs, MayWant, at_frame, take_outcome};
+    ghost use Rattle.tap_node.specs.Outcome.{AnswersAs, MayWant, at_frame, is_taken, take_outcome};
     ghost use Rattle.tap_node_common.specs.Sender.{node_sender};
 
     /// One of the members with which an overlay begins: a core node, with its ties at rest.
@@ -192,7 +192,8 @@ impl Node {
     ///
     /// A refusal leaves the node as it was. `Ended` goes before all others. `Wire` carries why the bytes are no frame,
     /// `NotMine` the receiver if it is another node, and `Strange` comes if the frame is strange to the node. `NoMemory` comes
-    /// in place of `NotMine`, `Strange` or the step alone, and ends the node. There is room for a step.
+    /// in place of the step, or if the frame has a list, to read which takes memory; then also in place of `NotMine` and `Strange`.
+    /// It ends the node. There is room for a step.
     ///
     /// Rule: docs/PROTOCOL.md, "Steps of a node" and "Refused frames".
     #[inline(always)]
@@ -206,11 +207,7 @@ impl Node {
         }
         match decode(self.alloc, &self.sender.settings, bytes) {
             Ok(frame) => self.take_frame(&frame),
-            Err(WireFault::NoMemory) => {
-                self.state = State::ended(self.alloc);
-                Err(NodeFault::NoMemory)
-            }
-            Err(fault) => Err(NodeFault::Wire(fault)),
+            Err(cause) => self.refuse(NodeFault::from(cause)),
         }
     }
 
@@ -219,7 +216,8 @@ impl Node {
         requires room { IsTrue (has_room_left self.old) }
         requires runs { self.old.ended ≡ false }
         requires frame { IsFrame (settings_of self.old.state) frame.now }
-        ensures { AnswersAs (at_frame self.old frame.now) self.old result self.new }
+        ensures outcome { AnswersAs (at_frame self.old frame.now) self.old result self.new }
+        ensures memory { result ≡ Err NodeFault.NoMemory → IsTrue (is_taken self.old.state frame.now) }
     {
         if frame.to != self.sender.name {
             return Err(NodeFault::NotMine(frame.to));
@@ -233,9 +231,9 @@ impl Node {
         };
         match self.state.take(self.alloc, &self.sender, &mut turn, frame) {
             Ok(()) => Ok(turn),
-            Err(NoMemory) => {
+            Err(refused) => {
                 self.state = State::ended(self.alloc);
-                Err(NodeFault::NoMemory)
+                Err(NodeFault::from(refused))
             }
         }
     }
@@ -264,8 +262,9 @@ impl Node {
 
     // Whether a frame is strange to it.
     fn is_strange(&self, frame: &Frame) -> bool
-        requires { IsFrame (settings_of self.now.state) frame.now }
-        ensures { self.now.ended ≡ false → result ≡ is_strange self.now.state frame.now }
+        requires runs { self.now.ended ≡ false }
+        requires frame { IsFrame (settings_of self.now.state) frame.now }
+        ensures { result ≡ is_strange self.now.state frame.now }
     {
         match &self.state {
             State::Joining(node) => {
@@ -278,9 +277,10 @@ impl Node {
                 &node.parts.covers,
                 frame,
             ),
-            State::Gone(_) | State::Ceased(_) | State::Ended(_) => {
+            State::Gone(_) | State::Ceased(_) => {
                 is_strange_to_ended(&self.sender.settings, &self.sender.name, frame)
             }
+            State::Ended(_) => unreachable!(),
         }
     }
 }

@@ -1,4 +1,4 @@
-ghost use Rattle.std.specs.Prelude.{◌≡◌, ◌≤◌, false, None, IsTrue};
+ghost use Rattle.std.specs.Prelude.{◌≡◌, ◌≢◌, ◌≤◌, false, None, IsTrue, Err};
 ghost use Rattle.tap_name.specs.Name.{IsName};
 ghost use Rattle.tap_name.specs.Word.{IsWord};
 ghost use Rattle.tap_cast.specs.Casts.{level_of_cast};
@@ -41,13 +41,14 @@ impl Node {
 
     /// Gives the join of a joining node up.
     ///
-    /// `Ended` is its one refusal, and leaves the node as it was. `NoMemory` ends the node. There is room for a step.
+    /// `Ended` is its one refusal, and leaves the node as it was. `NoMemory` never comes. There is room for a step.
     ///
     /// Rule: docs/PROTOCOL.md, "Giving a join up".
     pub fn abandon(&mut self) -> Result<Turn, NodeFault>
         requires room { IsTrue (has_room_left self.old) }
         requires joining { self.old.ended ≡ false → self.old.state.status ≡ JoiningStatus }
-        ensures { AnswersAs (start_outcome self.old Abandon) self.old result self.new }
+        ensures outcome { AnswersAs (start_outcome self.old Abandon) self.old result self.new }
+        ensures never { result ≢ Err NodeFault.NoMemory }
     {
         if self.is_ended() {
             return Err(NodeFault::Ended);
@@ -55,7 +56,7 @@ impl Node {
         let sender = self.sender();
         let sent = FrameList::new(self.alloc);
         let news = self.state.abandon(&sender);
-        turned(self.alloc, &mut self.state, sent, Ok(news))
+        Ok(Turn { sent, news })
     }
 
     /// A core node publishes an object.

@@ -122,7 +122,8 @@ impl State {
             State::Core(node) => node.take(frame, &mut turn.sent, &mut turn.news),
             State::Leaving(node) => node.take(frame, &mut turn.sent, &mut turn.news),
             State::Ceased(sessions) => take_ceased(sessions, sender, &mut turn.sent, frame),
-            State::Gone(_) | State::Ended(_) => Ok(()),
+            State::Gone(_) => Ok(()),
+            State::Ended(_) => unreachable!(),
         }
     }
 
@@ -190,7 +191,7 @@ impl State {
     {
         match self {
             State::Joining(node) => node.join(sent, via),
-            _ => Ok(News::Nothing),
+            _ => unreachable!(),
         }
     }
 
@@ -202,8 +203,9 @@ impl State {
         requires at { (state_held sender.now.settings sender.now.name self.old).status ≡ JoiningStatus }
         ensures { (sent : List (List ℕ)) → StartsFrom sender.now.settings sender.now.name self.old self.new Abandon sent sent result }
     {
-        if let State::Joining(node) = self {
-            node.abandon();
+        match self {
+            State::Joining(node) => node.abandon(),
+            _ => unreachable!(),
         }
         News::Nothing
     }
@@ -224,7 +226,7 @@ impl State {
     {
         match self {
             State::Core(node) => node.publish(sent, object),
-            _ => Ok(News::Nothing),
+            _ => unreachable!(),
         }
     }
 
@@ -244,7 +246,7 @@ impl State {
     {
         match self {
             State::Core(node) => node.withdraw(sent, object),
-            _ => Ok(News::Nothing),
+            _ => unreachable!(),
         }
     }
 
@@ -265,7 +267,7 @@ impl State {
     {
         match self {
             State::Core(node) => node.find(sent, ticket, object),
-            _ => Ok(News::Nothing),
+            _ => unreachable!(),
         }
     }
 
@@ -289,7 +291,7 @@ impl State {
     {
         match self {
             State::Core(node) => node.cast(sent, copy, word),
-            _ => Ok(News::Nothing),
+            _ => unreachable!(),
         }
     }
 
@@ -326,7 +328,7 @@ impl State {
         ensures { IfOk result (λ r. StartsFrom sender.now.settings sender.now.name self r.0 Leave sent.old sent.new r.1) }
     {
         let State::Core(node) = self else {
-            return Ok((self, News::Nothing));
+            unreachable!()
         };
         let (core, parts) = node.into_parts();
         let mut node = LeavingNode::start(alloc, core, parts)?;
@@ -366,9 +368,9 @@ pub(crate) fn turned(
 {
     match news {
         Ok(news) => Ok(Turn { sent, news }),
-        Err(NoMemory) => {
+        Err(refused) => {
             *state = State::ended(alloc);
-            Err(NodeFault::NoMemory)
+            Err(NodeFault::from(refused))
         }
     }
 }

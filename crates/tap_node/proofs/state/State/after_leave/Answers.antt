@@ -3,6 +3,7 @@ use Rattle.tap_rule.specs.Leaving.{with_departure}
 use Rattle.tap_node_common.specs.States.{core_state_of}
 use Rattle.tap_core_node.specs.State.{core_state}
 use Rattle.tap_leaving_node.specs.State.{leaving_state}
+use Rattle.tap_node.proofs.ByStatus.{is_core}
 use Rattle.tap_node.proofs.LastNumbers.{departs}
 use Rattle.tap_node.proofs.state.State.after_leave.Goals as goal
 
@@ -47,3 +48,6 @@ send_notices-requires-clause-numbers c =
     let sound = rw c.in-Core.is at c.requires.sound in
     let room = rw c.in-Core.is at c.requires.room in
     (departs (core_state c.in-Core.node) (leaving_state c.in_ok-node.node) was sound room).notices
+
+pub unreachable-requires : goal.unreachable-requires
+unreachable-requires c = is_core c.args.sender.now.settings c.args.sender.now.name c.args.self c.requires.at c.in_default.not-Core

@@ -2,13 +2,16 @@ use Rattle.std.proofs.Common.{refl}
 use Rattle.std.proofs.lemmas.Result.{IfOk-weaker}
 use Rattle.tap_rule.specs.Event.Start.{Publish}
 use Rattle.tap_node.specs.declared.state.State.TheVariants.{Core}
-use Rattle.tap_node.proofs.ByStatus.{core_starts}
+use Rattle.tap_node.proofs.ByStatus.{core_starts, is_core}
 use Rattle.tap_node.proofs.state.State.publish.Goals as goal
 
-pub returns-in-Core : goal.returns-in-Core
-returns-in-Core c =
+pub returns : goal.returns
+returns c =
     IfOk-weaker c.publish.result _ _
     (λ news follows.
     core_starts c.args.sender.now.settings c.args.sender.now.name c.args.self.now (Core c.publish.new.self) (Publish c.args.object)
     c.args.sent.now c.publish.new.sent news c.in-Core.node c.publish.new.self c.in-Core.is refl follows)
     c.publish.ensures
+
+pub unreachable-requires : goal.unreachable-requires
+unreachable-requires c = is_core c.args.sender.now.settings c.args.sender.now.name c.args.self.now c.requires.at c.in_default.not-Core
