@@ -5,7 +5,7 @@ use std::fmt;
 use tap_link::Kind;
 use tap_name::{Name, Settings};
 use tap_node::{News, Node, NodeFault, NodeStatus, Turn};
-use tap_wire::{Bytes, decode_head};
+use tap_wire::{Bytes, Kind as FrameKind, WireFault, decode};
 
 // A name as it is printed.
 #[derive(Clone, Copy)]
@@ -60,7 +60,7 @@ fn print_turn(
             reached: true,
             ..
         } => println!(rt; "reached {cast} {}", Printed(name))?,
-        _ => {}
+        News::Nothing | News::Answered { .. } | News::Cast { reached: false, .. } => {}
     }
     for bytes in turn.sent.into_frames() {
         print_frame(rt, system, bytes)?;
@@ -79,23 +79,25 @@ fn print_turn(
             ticket,
             server: None,
         } => println!(rt; "answered {ticket} none")?,
-        _ => {}
+        News::Nothing | News::Core | News::Gone | News::Cast { closed: false, .. } => {}
     }
     Ok(())
 }
 
 // Prints a frame that is sent, and puts it under way.
 fn print_frame(rt: &(impl AllocGlobal + Print), system: &mut System, bytes: Bytes) -> Result<()> {
-    let Ok(head) = decode_head(system.settings(), bytes.as_slice()) else {
-        bail!("a node sends what is no frame");
+    let frame = match decode(rt.alloc(), system.settings(), bytes.as_slice()) {
+        Ok(frame) => frame,
+        Err(WireFault::NoMemory) => bail!("no memory"),
+        Err(_) => bail!("a node sends what is no frame"),
     };
     let number = system.next_number();
-    let word = kind_word(head.kind);
+    let word = kind_word(FrameKind::of(&frame.body));
     let spelled = hex::encode(rt.alloc(), bytes.as_slice())?;
     println!(rt;
         "sent {number} {word} {} {} {spelled}",
-        Printed(&head.from),
-        Printed(&head.to)
+        Printed(&frame.from),
+        Printed(&frame.to)
     )?;
     system.send(SentFrame { number, bytes })
 }
@@ -152,25 +154,25 @@ fn print_links(rt: &impl Print, node: &Node) -> Result<()> {
 }
 
 // The word of a kind of frame.
-fn kind_word(kind: u8) -> &'static str {
+fn kind_word(kind: FrameKind) -> &'static str {
     match kind {
-        1 => "seek",
-        2 => "tell",
-        3 => "hello",
-        4 => "heard",
-        5 => "ack",
-        6 => "done",
-        7 => "release",
-        8 => "link",
-        9 => "lay",
-        10 => "find",
-        11 => "answer",
-        12 => "leave",
-        13 => "left",
-        14 => "gone",
-        15 => "forget",
-        16 => "cast",
-        _ => "castack",
+        FrameKind::Seek => "seek",
+        FrameKind::Tell => "tell",
+        FrameKind::Hello => "hello",
+        FrameKind::Heard => "heard",
+        FrameKind::Ack => "ack",
+        FrameKind::Done => "done",
+        FrameKind::Release => "release",
+        FrameKind::Link => "link",
+        FrameKind::Lay => "lay",
+        FrameKind::Find => "find",
+        FrameKind::Answer => "answer",
+        FrameKind::Leave => "leave",
+        FrameKind::Left => "left",
+        FrameKind::Gone => "gone",
+        FrameKind::Forget => "forget",
+        FrameKind::Cast => "cast",
+        FrameKind::CastAck => "castack",
     }
 }
 
