@@ -1,5 +1,5 @@
 -- What holds of each log of turns and its reduced log: it holds of the beginning, and each turn keeps it.
--- Cited above: log_kept
+-- Cited above: log_kept, none_departs
 use Rattle.std.proofs.Common.{Bool, ◌≡◌, ℕ, zero, suc, true, false, List, [], ◌∷◌, take, drop, filter, All, None, refl, ap, sym, ◌∙◌, subst, arith}
 use Rattle.std.specs.List.{filter_map, last_or}
 use Rattle.std.proofs.lemmas.Bool.{false≢true}
@@ -33,7 +33,7 @@ module _ (b : Beginning) where
       All-cons (λ item. step_of item ≡ None) (begin_record b) (Carrier ∷ []) refl
       (All-cons (λ item. step_of item ≡ None) Carrier [] refl (All-nil (λ item. step_of item ≡ None)))
 
-  none_departs : (log : List Record) → All (λ item. step_of item ≡ None) log → departing_of log ≡ None
+  pub none_departs : (log : List Record) → All (λ item. step_of item ≡ None) log → departing_of log ≡ None
   none_departs log none =
       ap (λ l. last_or None (filter_map depart_name l))
       (none_accepted (is_carried log) (drop (last_still log) log) (All-drop (λ item. step_of item ≡ None) (last_still log) log none))

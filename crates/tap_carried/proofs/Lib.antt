@@ -1,9 +1,9 @@
 mod SameTold
-mod SameStarts
+pub mod SameStarts
 pub mod TurnGroups
 pub mod TurnsKept
 pub mod BeginningKept
-mod SameNodes
+pub mod SameNodes
 mod SameRefusals
 pub mod ReducedLogs
 mod EndedLogs

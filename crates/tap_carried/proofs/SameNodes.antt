@@ -1,19 +1,28 @@
 -- Who takes part, and what is published, is the same in a log of turns and in its reduced log.
-use Rattle.std.proofs.Common.{Bool, ◌≡◌, List, [], ◌++◌, filter, fold, ap, sym, ◌∙◌}
+-- Cited above: SaysAlike
+use Rattle.std.proofs.Common.{Bool, false, ◌≡◌, List, [], ◌++◌, filter, fold, ap, sym, ◌∙◌}
 use Rattle.std.specs.List.{filter_map}
 use Rattle.tap_name.specs.Names.{has_name, names_without}
 use Rattle.tap_log.specs.declared.record.Record.{Record}
-use Rattle.tap_log.specs.Kinds.{abandoned_name, core_name, gone_name}
+use Rattle.tap_log.specs.Kinds.{abandoned_name, core_name, gone_name, is_carried}
 use Rattle.tap_log.specs.Reduced.{reduced}
 use Rattle.tap_history.specs.Core.{abandoned_of, ceased_of, accepted_steps, core_of, departures_of, gone_of, joins_of, members_of, present_of}
+use Rattle.tap_history.specs.Departing.{departing_of}
 use Rattle.tap_history.specs.Names.{names_of, with_name}
 use Rattle.tap_history.specs.Published.{published_of, unwithdrawn_pairs, without_servers}
 use Rattle.tap_history.specs.StepAsks.{depart_name, is_start, join_name}
 use Rattle.tap_carried.proofs.SameTold.{kept_abandoned, kept_core, kept_gone, reduced_pairs, reduced_tells}
 use Rattle.tap_carried.proofs.SameStarts.{starts_depart, starts_in, starts_join}
-use Rattle.tap_carried.proofs.TurnsKept.{IsKept}
 
-module _ (c : Bool) (log : List Record) (kept : IsKept c log) where
+-- What is asked of a log, carried or not, and its reduced log, so that they agree: of both the same members, accepted starts and departure.
+pub record SaysAlike (c : Bool) (log : List Record) : Type 0 where
+  pub carried : is_carried log ≡ c
+  pub uncarried : is_carried (reduced log) ≡ false
+  pub members : members_of (reduced log) ≡ members_of log
+  pub starts : starts_in c log ≡ starts_in false (reduced log)
+  pub departing : departing_of (reduced log) ≡ departing_of log
+
+module _ (c : Bool) (log : List Record) (kept : SaysAlike c log) where
   pub starts_are : filter is_start (accepted_steps (reduced log)) ≡ filter is_start (accepted_steps log)
   starts_are =
       ap (λ d. starts_in d (reduced log)) kept.uncarried ∙ sym kept.starts ∙ sym (ap (λ d. starts_in d log) kept.carried)

@@ -16,9 +16,8 @@ use Rattle.tap_history.specs.Published.{has_pair}
 use Rattle.tap_history.specs.Refusals.{begin_settings, damaged, first_refusal, first_some, is_and, is_readable, packets_of_step, refusals, refused_if, refuses_already_abandoned, refuses_already_published, refuses_departing, refuses_last_node, refuses_name_taken, refuses_no_such_byte, refuses_no_such_flight, refuses_no_such_node, refuses_not_at_rest, refuses_not_core, refuses_not_in_prefix, refuses_not_joining, refuses_not_published, refuses_readable, refuses_too_many_nodes, refuses_too_many_packets, while_departing}
 use Rattle.tap_history.specs.StepAsks.{abandon_name, asked_node, depart_name, flight_place, join_name, publish_pair, suits_joining, withdraw_pair}
 use Rattle.tap_carried.specs.ReducedLogs.{starts_or_observes}
-use Rattle.tap_carried.proofs.SameNodes.{abandoned_are, core_is, names_are, present_is, published_is}
+use Rattle.tap_carried.proofs.SameNodes.{SaysAlike, abandoned_are, core_is, names_are, present_is, published_is}
 use Rattle.tap_carried.proofs.SameTold.{reduced_outstanding}
-use Rattle.tap_carried.proofs.TurnsKept.{IsKept}
 
 -- a start or an observation has no place, damages no copy, and makes no packets
 no_flight : (step : Step) → starts_or_observes step ≡ true → flight_place step ≡ None
@@ -61,7 +60,7 @@ first_same one other rest others same next = ap (λ o. first_some (o ∷ rest)) 
     by_one None = next
     by_one (Some refusal) = refl
 
-module _ (c : Bool) (log : List Record) (kept : IsKept c log) (step : Step) (is : starts_or_observes step ≡ true) where
+module _ (c : Bool) (log : List Record) (kept : SaysAlike c log) (step : Step) (is : starts_or_observes step ≡ true) where
   abbrev less : List Record
   less = reduced log
 

@@ -1,4 +1,5 @@
 -- A turn and what becomes of it in the reduced log accept the same starts.
+-- Cited above: HasNoStep, starts_in
 use Rattle.std.proofs.Common.{◌≡◌, inl, inr, ℕ, Bool, true, false, not, List, [], ◌∷◌, ◌++◌, filter, All, Option, None, Some, refl, ap, sym, ◌∙◌, cond}
 use Rattle.std.specs.Prelude.{if◌then◌else◌}
 use Rattle.std.specs.List.{filter_map, cons_option}

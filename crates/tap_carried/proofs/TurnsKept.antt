@@ -1,5 +1,5 @@
 -- What a log and its reduced log keep with each turn: moments correspond, and who departs is the same.
--- Cited above: IsKept
+-- Cited above: earlier_too, IsKept, moment_cases
 use Rattle.std.proofs.Common.{Bool, ◌≡◌, ◌⊎◌, inl, inr, ℕ, ◌≤◌, true, false, List, [], ◌∷◌, ◌++◌, length, take, drop, filter, All, None, refl, ap, sym, ◌∙◌, subst, append-nil, arith, length-append}
 use Rattle.std.specs.Prelude.{if◌then◌else◌}
 use Rattle.std.specs.List.{filter_map, last_or}
@@ -76,7 +76,7 @@ module _ (log : List Record) (first : Record) (after : List Record) (group : IsG
   abbrev longer : List Record
   longer = log ++ first ∷ after
 
-  moment_cases : (m : ℕ) → is_moment longer m ≡ true → ((m ≤ length log) × (is_moment log m ≡ true)) ⊎ (m ≡ length longer)
+  pub moment_cases : (m : ℕ) → is_moment longer m ≡ true → ((m ≤ length log) × (is_moment log m ≡ true)) ⊎ (m ≡ length longer)
   moment_cases m is = elim (cases_lt (length log) m) [
     | inr up_to ↦ inl (up_to, sym (one_more_group_holds.earlier log first after group m up_to) ∙ is)
     | inl later ↦ elim (cases_lt m (length longer)) [
@@ -85,7 +85,7 @@ module _ (log : List Record) (first : Record) (after : List Record) (group : IsG
     ]
   ]
 
-  earlier_too : (m : ℕ) → m ≤ length log → is_moment log m ≡ true → is_moment longer m ≡ true
+  pub earlier_too : (m : ℕ) → m ≤ length log → is_moment log m ≡ true → is_moment longer m ≡ true
   earlier_too m up_to is = one_more_group_holds.earlier log first after group m up_to ∙ is
 
   taken_of : (m : ℕ) → m ≤ length log → take m longer ≡ take m log
