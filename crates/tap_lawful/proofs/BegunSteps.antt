@@ -1,5 +1,5 @@
 -- The steps that a run has begun are the scenario's first ones, numbered from 1.
--- Cited above: played_all, played_indices, played_steps
+-- Cited above: played_all, played_indices, played_steps, take_next
 use Rattle.std.proofs.Common.{◌≡◌, inl, inr, ℕ, zero, suc, ◌+◌, false, List, [], ◌∷◌, ◌++◌, length, take, get_or, All, Option, None, Some, refl, ap, sym, subst, ◌∙◌, arith, append-nil, length-append}
 use Rattle.std.specs.Prelude.{slice_get}
 use Rattle.std.specs.List.{filter_map, range_with_len}

@@ -1,4 +1,5 @@
 -- How the log of a carried run grows: group by group, and its steps are the scenario's first ones, numbered from 1.
+-- Cited above: carried_all, carried_more, carried_steps, within_none
 use Rattle.std.proofs.Common.{◌≡◌, inl, inr, ℕ, suc, ◌+◌, ◌≤◌, true, false, List, [], ◌∷◌, ◌++◌, take, get_or, All, Option, None, Some, refl, ap, sym, subst, ◌∙◌, arith, append-nil}
 use Rattle.std.specs.List.{filter_map, range_with_len}
 use Rattle.std.specs.Option.{option_map}
@@ -80,7 +81,7 @@ unfolding begins_group index_of
 none_begun (StepRecord index step) is = absurd (false≢true (sym is))
 none_begun item is = (refl, refl)
 
-within_none : (items : List Record) → All (λ item. begins_group true item ≡ false) items → Begins items [] []
+pub within_none : (items : List Record) → All (λ item. begins_group true item ≡ false) items → Begins items [] []
 within_none items all = record {
   steps_are = none_of step_of items (λ k d within. (none_begun (get_or items k d) (all k d within)).0);
   indices_are = none_of index_of items (λ k d within. (none_begun (get_or items k d) (all k d within)).1);

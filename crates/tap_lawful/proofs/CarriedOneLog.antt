@@ -40,7 +40,7 @@ module _ (s : ScenarioValue) where
   abbrev next : List Record → List Record → Type 0
   next = λ before group. carried_next_group s before ≡ Some group
 
-  abbrev Ending : List Record → List Record → Type 0
+  abbrev pub Ending : List Record → List Record → Type 0
   Ending played log = (log ≡ played) ⊎ (IsCarriedOver s played log ⊎ IsCarriedCut s played log)
 
   abbrev GoesAfter : List Record → List Record → Type 0
@@ -73,7 +73,7 @@ module _ (s : ScenarioValue) where
       spent.log_is ∙ ap (λ g. played ++ (take 1 g ++ Spent s.frames ∷ [])) same ∙ sym also.log_is
 
   -- each log begins with what was played before its ending
-  ending_after : (played log : List Record) → Ending played log → (rest : List Record) × (log ≡ played ++ rest)
+  pub ending_after : (played log : List Record) → Ending played log → (rest : List Record) × (log ≡ played ++ rest)
   ending_after played log (inl is) = ([], is ∙ sym (append-nil played))
   ending_after played log (inr (inl (inl finished))) = (Finished (length s.steps) ∷ [], finished.log_is)
   ending_after played log (inr (inl (inr spent))) = (take 1 spent.group ++ Spent s.frames ∷ [], spent.log_is)

@@ -1,4 +1,6 @@
 -- The log of a carried run is one of turns that may follow, so its reduced log is that of a run.
+-- Cited above: by_carried, carried_run, carried_runs_reduce, run_more, run_starts, script_steps,
+-- whole_next
 use Rattle.std.proofs.Common.{◌≡◌, ◌≤◌, Bool, true, List, [], ◌∷◌, ◌++◌, All, refl, sym, subst, ap, ◌∙◌, append-nil, append_assoc, arith}
 use Rattle.tap_scenario.specs.Scenario.{ScenarioValue}
 use Rattle.tap_scenario.specs.Step.{IsStep}
@@ -66,7 +68,7 @@ run_push b log group run next =
 -- ---- all turns
 
 module _ (s : ScenarioValue) (script : IsCarriedScript s) where
-  script_steps : All (IsStep s.settings true) s.steps
+  pub script_steps : All (IsStep s.settings true) s.steps
   script_steps = subst (λ c. All (IsStep s.settings c) s.steps) script.carried script.valid.steps
 
   pub run_more : (log group : List Record) → IsRunOfTurns true (beginning_in s) log → CarriedComesNext s log group

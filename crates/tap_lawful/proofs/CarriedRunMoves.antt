@@ -1,4 +1,5 @@
 -- A carried run is one of moves that may come, so it ends, makes few packets, and has few groups.
+-- Cited above: carried_groups_move, groups_grow
 use Rattle.std.proofs.Common.{◌≡◌, inl, inr, ℕ, ◌+◌, ◌*◌, ◌<◌, ◌≤◌, true, List, [], ◌∷◌, ◌++◌, length, refl, ap, sym, subst, ◌∙◌, length-append}
 use Rattle.std.proofs.lemmas.Option.{slice_get_within}
 use Rattle.tap_scenario.specs.Scenario.{ScenarioValue}
@@ -99,7 +100,7 @@ module _ (s : ScenarioValue) (script : IsCarriedScript s) where
       }
 
   -- there is one more group
-  groups_grow : (log group : List Record) → IsRunOfTurns true (beginning_in s) log → IsCarriedWhole log group
+  pub groups_grow : (log group : List Record) → IsRunOfTurns true (beginning_in s) log → IsCarriedWhole log group
       → length (groups_of (log ++ group)) ≡ length (groups_of log) + 1
   groups_grow log group run w =
       let going = going_on log (runs_reduce.run true (beginning_in s) log run).going in

@@ -1,6 +1,8 @@
 -- The group that comes next in a carried run is a turn that may follow.
-use Rattle.std.proofs.Common.{◌≡◌, inl, inr, ℕ, ◌+◌, ◌≤◌, Bool, true, false, List, [], ◌∷◌, ◌++◌, All, Option, None, Some, refl, ap, sym, subst, ◌∙◌, arith}
+-- Cited above: added_of, IsTurnGroup, turn_of_group
+use Rattle.std.proofs.Common.{◌≡◌, inl, inr, ℕ, suc, ◌+◌, ◌≤◌, Bool, true, false, List, [], ◌∷◌, ◌++◌, length, map, All, Option, None, Some, refl, ap, sym, subst, ◌∙◌, arith, length-append}
 use Rattle.std.specs.Prelude.{slice_get}
+use Rattle.std.specs.List.{filter_map}
 use Rattle.std.proofs.lemmas.Bool.{false≢true}
 use Rattle.std.proofs.lemmas.List.Elements.{All-get_or, All-nil}
 use Rattle.std.proofs.lemmas.Option.{get_or_from_slice_get, slice_get_within}
@@ -13,10 +15,12 @@ use Rattle.tap_log.specs.declared.record.Record.{Record}
 use Rattle.tap_log.specs.declared.record.Record.TheVariants.{Step as StepRecord, Taken, Arrived, Refused}
 use Rattle.tap_log.specs.declared.record.Refusal.{Refusal}
 use Rattle.tap_log.specs.Counts.{packet_count, sent_count}
+use Rattle.tap_log.specs.Kinds.{packet_number, sent_number}
 use Rattle.tap_log.specs.Reduced.{reduced}
+use Rattle.tap_log.proofs.MoreRecords.{packet_count-append}
 use Rattle.tap_history.specs.Moments.{awaiting, has_number, outstanding}
 use Rattle.tap_history.specs.Refusals.{first_refusal}
-use Rattle.tap_packets.specs.Groups.{ack_line, arrival_records}
+use Rattle.tap_packets.specs.Groups.{ack_line, arrival_records, data_lines, data_packets}
 use Rattle.tap_packets.specs.Packets.{PacketLine, lines_under_way, packet_record}
 use Rattle.tap_runs.specs.Beginning.{Beginning}
 use Rattle.tap_runs.specs.Course.{FollowStep, Follows, MayFollow, is_choice, system_of}
@@ -59,11 +63,36 @@ next_is_step P steps n step all at =
 
 -- ---- turns
 
--- the group is that of a turn which may follow
+-- what is added to the group of a turn
+abbrev pub added_of : Turn → List Record
+added_of (Steps index step items added) = added
+added_of (Takes packet frame items added) = added
+added_of (Arrives packet added) = added
+added_of (Ticks added) = added
+
+-- the group is that of a turn which may follow, and what is added are packets, but for one record
 pub record IsTurnGroup (b : Beginning) (log group : List Record) : Type 0 where
   pub turn : Turn
   pub is : group_of_turn true turn ≡ group
   pub follows : TurnFollows true b log turn
+  pub few : length (added_of turn) ≤ 1 + packet_count (added_of turn)
+
+-- each data packet is counted
+lines_counted : (lines : List PacketLine) → packet_count (map packet_record lines) ≡ length (map packet_record lines)
+unfolding packet_number
+lines_counted [] = refl
+lines_counted (line ∷ lines) = ap suc (lines_counted lines)
+
+packets_counted : (log : List Record) (frames : List ℕ) → length (data_packets log frames) ≤ 1 + packet_count (data_packets log frames)
+packets_counted log frames = let same = lines_counted (data_lines (packet_count log) frames) in omega (arith, same)
+
+with_ack_counted : (log : List Record) (frames : List ℕ) (ack : PacketLine)
+    → length (data_packets log frames ++ packet_record ack ∷ []) ≤ 1 + packet_count (data_packets log frames ++ packet_record ack ∷ [])
+with_ack_counted log frames ack =
+    let same = lines_counted (data_lines (packet_count log) frames) in
+    let size = length-append (data_packets log frames) (packet_record ack ∷ []) in
+    let count = packet_count-append (data_packets log frames) (packet_record ack ∷ []) in
+    omega (arith, same, size, count)
 
 module _ (s : ScenarioValue) (log : List Record) (run : IsRunOfTurns true (beginning_in s) log) where
   abbrev b : Beginning
@@ -107,6 +136,7 @@ module _ (s : ScenarioValue) (log : List Record) (run : IsRunOfTurns true (begin
       turn = Arrives line.number [];
       is = is;
       follows = carrier_turns_follow.acknowledged b log line.number;
+      few = omega arith;
     }
     arrival_turn false true group are is within =
         let ack = ack_line (packet_count log + sent_count items) line.frame in
@@ -116,6 +146,7 @@ module _ (s : ScenarioValue) (log : List Record) (run : IsRunOfTurns true (begin
           is = is;
           follows = carrier_turns_follow.taken b log line.number line.frame items ack
               (taken_follows are (fits (Arrived line.number ∷ []) (Taken line.frame ∷ items) added group is within));
+          few = with_ack_counted log (filter_map sent_number items) ack;
         }
     arrival_turn false false group are is within =
         let ack = ack_line (packet_count log) line.frame in
@@ -123,6 +154,7 @@ module _ (s : ScenarioValue) (log : List Record) (run : IsRunOfTurns true (begin
           turn = Arrives line.number (packet_record ack ∷ []);
           is = is;
           follows = carrier_turns_follow.again b log line.number ack;
+          few = omega arith;
         }
 
   -- ---- a step begins
@@ -146,6 +178,7 @@ module _ (s : ScenarioValue) (log : List Record) (run : IsRunOfTurns true (begin
       turn = Steps index step items [];
       is = is;
       follows = ((step_follows items [] is may, step_of_scenario_has_names s.settings true step valid), (All-nil IsAddedRecord, λ starts none. refl));
+      few = omega arith;
     }
 
     -- the refusal is that of the reduced log, or it is of a choice
@@ -171,6 +204,7 @@ module _ (s : ScenarioValue) (log : List Record) (run : IsRunOfTurns true (begin
       is = is;
       follows = carrier_turns_follow.step b log index step done
           (step_follows done (packets_sent log done) is (acted_says (is_choice step) acts)) (step_of_scenario_has_names s.settings true step valid);
+      few = packets_counted log (filter_map sent_number done);
     }
 
   module _ (index : ℕ) (group : List Record) (within : sent_count (log ++ group) ≤ s.frames) where
@@ -183,6 +217,7 @@ module _ (s : ScenarioValue) (log : List Record) (run : IsRunOfTurns true (begin
       is = is;
       follows = carrier_turns_follow.lost b log index place line.number
           (step_follows index (Lose place) valid group within [] _ is (inl refl));
+      few = omega arith;
     }
 
     repeating_turn : (place : ℕ) (line : Option PacketLine) → IsStep s.settings true (Repeat place)
@@ -194,6 +229,7 @@ module _ (s : ScenarioValue) (log : List Record) (run : IsRunOfTurns true (begin
       is = is;
       follows = carrier_turns_follow.repeated b log index place _
           (step_follows index (Repeat place) valid group within [] _ is (inl refl));
+      few = omega arith;
     }
 
     choice_turn : (step : Step) → IsStep s.settings true step → is_choice step ≡ true → choice_group log index step ≡ group
@@ -229,6 +265,7 @@ module _ (s : ScenarioValue) (log : List Record) (run : IsRunOfTurns true (begin
           turn = Ticks _;
           is = ticks.is;
           follows = carrier_turns_follow.ticks b log (awaiting log);
+          few = packets_counted log (awaiting log);
         }
         | inr (inr begins) ↦
             let step = begins.step in

@@ -6,15 +6,16 @@ pub mod Alike
 pub mod OneLog
 pub mod Choosing
 pub mod Choices
-mod CarriedComing
-mod CarriedTurns
-mod CarriedWhole
+pub mod CarriedComing
+pub mod CarriedTurns
+pub mod CarriedWhole
 mod CarriedChoosing
 mod CarriedMoves
 mod CarriedTicks
-mod CarriedReduction
-mod CarriedRunMoves
-mod CarriedGrowth
+pub mod CarriedReduction
+pub mod CarriedRunMoves
+pub mod CarriedGrowth
 mod CarriedAlike
 mod SameGroups
 mod CarriedOneLog
+pub mod Runs

@@ -1,8 +1,8 @@
--- Lawful logs: those of the runs of a scenario, however far they have come.
+-- The logs of the runs of a scenario that isn't carried, however far they have come.
 --
 -- Rule: docs/FORMATS.md, "What comes next" and "The ways a run ends".
 use Rattle.std.specs.Prelude.{◌≡◌, ◌⊎◌, ◌<◌, ◌≤◌, false, List, [], ◌∷◌, ◌++◌, length, None, Some}
-use Rattle.tap_scenario.specs.Scenario.{CanBePlayed, IsScript, ScenarioValue}
+use Rattle.tap_scenario.specs.Scenario.{ScenarioValue}
 use Rattle.tap_log.specs.declared.record.Record.{Record}
 use Rattle.tap_log.specs.declared.record.Record.TheVariants.{Step as StepRecord, Spent, Finished}
 use Rattle.tap_log.specs.Counts.{sent_count}
@@ -54,10 +54,3 @@ pub record IsWholeLogOf (s : ScenarioValue) (log : List Record) : Type 0 where
   pub played : List Record
   pub is_played : IsPlayed s played
   pub over : IsOver s played log
-
--- The log is lawful: it is that of a run of some scenario, which isn't carried and has no root sets.
-pub record IsLawful (log : List Record) : Type 0 where
-  pub script : ScenarioValue
-  pub valid : IsScript script
-  pub plays : CanBePlayed script
-  pub run : IsLogOf script log

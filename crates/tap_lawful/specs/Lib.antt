@@ -6,3 +6,5 @@ pub mod CarriedDue
 pub mod CarriedNext
 pub mod CarriedRuns
 pub mod CarriedLaws
+pub mod Runs
+pub mod RunLaws

@@ -1,5 +1,6 @@
 ghost use Rattle.tap_lawful.specs.CarriedLaws.{CarriedGroupsMove, CarriedGrows, CarriedRunsReduce, OneCarriedLog};
 ghost use Rattle.tap_lawful.specs.PlayedLaws.{OneLog, PlayedGrows};
+ghost use Rattle.tap_lawful.specs.RunLaws.{RunsByCarrier};
 
 /// The log of a run grows group by group, and each time less is left of the run. It is the course of a run. Its steps are the first
 /// ones of the scenario, numbered from 1, and all of them once no group comes next.
@@ -60,4 +61,14 @@ pub fn carried_growth_law()
 /// Rule: docs/FORMATS.md, "What comes next".
 pub fn one_carried_log_law()
     ensures { OneCarriedLog }
+{}
+
+/// So it is by the carrier of the scenario, carried or not: the log of its run grows group by group, its steps are the scenario's first ones, it
+/// begins as the scenario does, and a scenario has one log.
+///
+/// It does nothing: its contract is the law.
+///
+/// Rule: docs/FORMATS.md, "What comes next".
+pub fn runs_law()
+    ensures { RunsByCarrier }
 {}
