@@ -5,3 +5,5 @@ pub mod Endings
 pub mod Headline
 pub mod HasInvariant
 pub mod AsLogged
+pub mod Carried
+pub mod Runs
