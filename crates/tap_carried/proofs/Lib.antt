@@ -1,4 +1,4 @@
-mod SameTold
+pub mod SameTold
 pub mod SameStarts
 pub mod TurnGroups
 pub mod TurnsKept

@@ -74,7 +74,7 @@ module _ (s : ScenarioValue) (script : IsCarriedScript s) where
   pub run_more : (log group : List Record) → IsRunOfTurns true (beginning_in s) log → CarriedComesNext s log group
       → sent_count (log ++ group) ≤ s.frames → IsRunOfTurns true (beginning_in s) (log ++ group)
   run_more log group run comes within =
-      run_push (beginning_in s) log group run (turn_of_group s log run group script_steps comes within)
+      run_push (beginning_in s) log group run (turn_of_group s log run s.frames group script_steps comes within)
 
   pub run_starts : IsRunOfTurns true (beginning_in s) (beginning_records true (beginning_in s))
   run_starts = record { limits = script_within s script.valid; turns = []; follow = tt; is = refl }
@@ -86,7 +86,7 @@ module _ (s : ScenarioValue) (script : IsCarriedScript s) where
   pub whole_next : (log group : List Record) → IsRunOfTurns true (beginning_in s) log → CarriedComesNext s log group
       → sent_count (log ++ group) ≤ s.frames → IsCarriedWhole log group
   whole_next log group run comes within =
-      whole_carried (beginning_in s) log group run (turn_of_group s log run group script_steps comes within)
+      whole_carried (beginning_in s) log group run (turn_of_group s log run s.frames group script_steps comes within)
       (run_more log group run comes within)
 
 pub carried_runs_reduce : CarriedRunsReduce

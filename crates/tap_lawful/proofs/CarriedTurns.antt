@@ -94,19 +94,20 @@ with_ack_counted log frames ack =
     let count = packet_count-append (data_packets log frames) (packet_record ack ∷ []) in
     omega (arith, same, size, count)
 
-module _ (s : ScenarioValue) (log : List Record) (run : IsRunOfTurns true (beginning_in s) log) where
+-- if so many frames may be sent in all
+module _ (s : ScenarioValue) (log : List Record) (run : IsRunOfTurns true (beginning_in s) log) (most : ℕ) where
   abbrev b : Beginning
-  b = beginning_in s
+  b = record { settings = s.settings; frames = most; members = s.members }
 
   abbrev before : List Record
   before = reduced log
 
   agrees : AgreesWithReduced log
-  agrees = logs_agree.agree true log (runs_reduce.turns true b log run)
+  agrees = logs_agree.agree true log (runs_reduce.turns true (beginning_in s) log run)
 
   -- what becomes of a group sends no more
-  fits : (first items added group : List Record) → first ++ (items ++ added) ≡ group → sent_count (log ++ group) ≤ s.frames
-      → sent_count (before ++ items) ≤ s.frames
+  fits : (first items added group : List Record) → first ++ (items ++ added) ≡ group → sent_count (log ++ group) ≤ most
+      → sent_count (before ++ items) ≤ most
   fits first items added group is within =
       let here = sent_count-append before items in
       let whole = sent_count-append log group in
@@ -121,7 +122,7 @@ module _ (s : ScenarioValue) (log : List Record) (run : IsRunOfTurns true (begin
     abbrev items : List Record
     items = reduced_taken_records s.settings log line.frame
 
-    taken_follows : has_number (outstanding log) line.frame ≡ true → sent_count (before ++ Taken line.frame ∷ items) ≤ s.frames
+    taken_follows : has_number (outstanding log) line.frame ≡ true → sent_count (before ++ Taken line.frame ∷ items) ≤ most
         → Follows b before (Taken line.frame ∷ items)
     unfolding MayFollow
     taken_follows waits within = record {
@@ -130,7 +131,7 @@ module _ (s : ScenarioValue) (log : List Record) (run : IsRunOfTurns true (begin
     }
 
     arrival_turn : (ack waits : Bool) (group : List Record) → has_number (outstanding log) line.frame ≡ waits
-        → Arrived line.number ∷ arrival_records log line items ack waits ≡ group → sent_count (log ++ group) ≤ s.frames
+        → Arrived line.number ∷ arrival_records log line items ack waits ≡ group → sent_count (log ++ group) ≤ most
         → IsTurnGroup b log group
     arrival_turn true waits group are is within = record {
       turn = Arrives line.number [];
@@ -160,7 +161,7 @@ module _ (s : ScenarioValue) (log : List Record) (run : IsRunOfTurns true (begin
   -- ---- a step begins
 
   module _ (index : ℕ) (step : Step) (valid : IsStep s.settings true step) (group : List Record)
-      (within : sent_count (log ++ group) ≤ s.frames) where
+      (within : sent_count (log ++ group) ≤ most) where
     abbrev done : List Record
     done = reduced_step_records s.settings log index step
 
@@ -207,7 +208,7 @@ module _ (s : ScenarioValue) (log : List Record) (run : IsRunOfTurns true (begin
       few = packets_counted log (filter_map sent_number done);
     }
 
-  module _ (index : ℕ) (group : List Record) (within : sent_count (log ++ group) ≤ s.frames) where
+  module _ (index : ℕ) (group : List Record) (within : sent_count (log ++ group) ≤ most) where
     losing_turn : (place : ℕ) (line : Option PacketLine) → IsStep s.settings true (Lose place) → losing_group index place line ≡ group
         → IsTurnGroup b log group
     unfolding is_choice
@@ -255,7 +256,7 @@ module _ (s : ScenarioValue) (log : List Record) (run : IsRunOfTurns true (begin
   -- ---- what comes next
 
   pub turn_of_group : (group : List Record) → All (IsStep s.settings true) s.steps → CarriedComesNext s log group
-      → sent_count (log ++ group) ≤ s.frames → IsTurnGroup b log group
+      → sent_count (log ++ group) ≤ most → IsTurnGroup b log group
   turn_of_group group valid comes within =
       elim (carried_coming s log group comes) [
         | inl arrives ↦

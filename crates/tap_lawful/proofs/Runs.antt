@@ -1,11 +1,11 @@
 -- The runs of a scenario, carried or not: each law by its carrier.
--- Cited above: lawful_carried, lawful_plain, runs_by_carrier
-use Rattle.std.proofs.Common.{◌≡◌, ◌≢◌, ◌⊎◌, inl, inr, ◌≤◌, Bool, true, false, List, [], ◌∷◌, ◌++◌, length, take, None, Some, refl, ap, sym, subst, ◌∙◌, append_assoc, append-nil}
+-- Cited above: finished_log, lawful_carried, lawful_plain, runs_by_carrier, same_beginnings, spent_log, stopped_log, whole_log
+use Rattle.std.proofs.Common.{◌≡◌, ◌≢◌, ◌⊎◌, inl, inr, ◌<◌, ◌≤◌, Bool, true, false, List, [], ◌∷◌, ◌++◌, length, take, None, Some, refl, ap, sym, subst, ◌∙◌, arith, append_assoc, append-nil}
 use Rattle.std.specs.Prelude.{if◌then◌else◌}
 use Rattle.std.proofs.lemmas.List.{take-append-le}
 use Rattle.tap_scenario.specs.Scenario.{IsScript, ScenarioValue}
 use Rattle.tap_log.specs.declared.record.Record.{Record}
-use Rattle.tap_log.specs.declared.record.Record.TheVariants.{Carrier, Finished, Spent, Step as StepRecord}
+use Rattle.tap_log.specs.declared.record.Record.TheVariants.{Begin, Carrier, Finished, Spent, Step as StepRecord}
 use Rattle.tap_log.specs.Counts.{sent_count}
 use Rattle.tap_log.specs.Kinds.{is_carried}
 use Rattle.tap_log.specs.Log.{begun_steps}
@@ -18,12 +18,16 @@ use Rattle.tap_carried.specs.LogTurns.{beginning_records}
 use Rattle.tap_lawful.specs.CarriedRuns.{IsCarriedLogOf, IsCarriedScript}
 use Rattle.tap_lawful.specs.Lawful.{IsLogOf, IsOver, step_alone}
 use Rattle.tap_lawful.specs.Next.{beginning_in, begun_count}
-use Rattle.tap_lawful.specs.PlayedLaws.{BeginsWith}
-use Rattle.tap_lawful.specs.RunLaws.{RunsByCarrier}
-use Rattle.tap_lawful.specs.Runs.{HasNoRootSets, IsLawful, IsLogBy, IsPlayedBy, IsWholeLogBy, comes_next}
+use Rattle.tap_lawful.specs.PlayedLaws.{BeginsAlike, BeginsWith}
+use Rattle.tap_lawful.specs.RunLaws.{RunsByCarrier, left_by}
+use Rattle.tap_lawful.specs.Runs.{HasNoRootSets, IsFinishedBy, IsLawful, IsLogBy, IsPlayedBy, IsSpentBy, IsStoppedBy, IsWholeLogBy, comes_next}
+use Rattle.tap_lawful.proofs.Alike.{played_alike}
 use Rattle.tap_lawful.proofs.BegunSteps.{played_all, played_steps}
+use Rattle.tap_lawful.proofs.CarriedAlike.{carried_alike}
 use Rattle.tap_lawful.proofs.CarriedGrowth.{carried_all, carried_more, carried_starts, carried_steps}
 use Rattle.tap_lawful.proofs.CarriedOneLog.{ending_after, one_carried_log_holds}
+use Rattle.tap_lawful.proofs.CarriedRunMoves.{carried_groups_move}
+use Rattle.tap_lawful.proofs.Less.{less_left}
 use Rattle.tap_lawful.proofs.OneLog.{one_log_holds}
 use Rattle.tap_lawful.proofs.Played.{played_more, played_starts}
 
@@ -105,6 +109,12 @@ module _ (s : ScenarioValue) where
       carried_more s log group (record { valid = valid; carried = is }) played comes within
   more_by false log group is valid played comes within = played_more s log group played comes within
 
+  less_by : (c : Bool) (log group : List Record) → s.carrier ≡ c → IsScript s → IsPlayedBy c s log → comes_next c s log ≡ Some group
+      → sent_count (log ++ group) ≤ s.frames → left_by c s (log ++ group) < left_by c s log
+  less_by true log group is valid played comes within =
+      carried_groups_move.falls s log group (record { valid = valid; carried = is }) played comes within
+  less_by false log group is valid played comes within = less_left s log group comes within
+
   steps_by : (c : Bool) (log : List Record) → s.carrier ≡ c → IsScript s → IsPlayedBy c s log
       → begun_steps log ≡ take (begun_count log) s.steps
   steps_by true log is valid played = carried_steps s log (record { valid = valid; carried = is }) played
@@ -114,6 +124,10 @@ module _ (s : ScenarioValue) where
       → begun_steps log ≡ s.steps
   all_by true log is valid played none = carried_all s log (record { valid = valid; carried = is }) played none
   all_by false log is valid played none = played_all s log played none
+
+  alike_by : (c : Bool) (other : ScenarioValue) (log : List Record) → IsPlayedBy c s log → BeginsAlike s other log → IsPlayedBy c other log
+  alike_by true other log played alike = carried_alike s other log played alike
+  alike_by false other log played alike = played_alike s other log played alike
 
   begins_by : (c : Bool) (log : List Record) → IsLogBy c s log → beginning_of log ≡ beginning_records c (beginning_in s)
   begins_by true log of = carried_begins s log of
@@ -131,12 +145,48 @@ pub runs_by_carrier : RunsByCarrier
 runs_by_carrier = record {
   starts = λ s. starts_by s s.carrier;
   more = λ s log group valid played comes within. more_by s s.carrier log group refl valid played comes within;
+  less = λ s log group valid played comes within. less_by s s.carrier log group refl valid played comes within;
   steps = λ s log valid played. steps_by s s.carrier log refl valid played;
   all = λ s log valid played none. all_by s s.carrier log refl valid played none;
+  alike = λ s other log same played alike. subst (λ c. IsPlayedBy c other log) (sym same) (alike_by s s.carrier other log played alike);
   begins = λ s log of. begins_by s s.carrier log of;
   first = λ s one other of also. first_by s s.carrier one other of also;
   whole = λ s one other of also. whole_by s s.carrier one other of also;
 }
+
+-- two scenarios with which one log begins are carried alike, and begin alike
+abbrev first_begun : Beginning → List Record → Beginning
+first_begun b (Begin settings frames members ∷ items) = record { settings = settings; frames = frames; members = members }
+first_begun b other = b
+
+pub same_beginnings : (c d : Bool) (b e : Beginning) → beginning_records c b ≡ beginning_records d e → (d ≡ c) × (e ≡ b)
+same_beginnings true true b e is = (refl, sym (ap (first_begun b) is))
+same_beginnings true false b e is = let wrong = ap length is in absurd (omega (arith, wrong))
+same_beginnings false true b e is = let wrong = ap length is in absurd (omega (arith, wrong))
+same_beginnings false false b e is = (refl, sym (ap (first_begun b) is))
+
+-- ---- how a run ends
+
+pub finished_log : (c : Bool) (s : ScenarioValue) (played log : List Record) → IsPlayedBy c s played → IsFinishedBy c s played log
+    → IsWholeLogBy c s log
+finished_log true s played log is over = record { played = played; is_played = is; over = inl over }
+finished_log false s played log is over = record { played = played; is_played = is; over = inl over }
+
+pub spent_log : (c : Bool) (s : ScenarioValue) (played log : List Record) → IsPlayedBy c s played → IsSpentBy c s played log
+    → IsWholeLogBy c s log
+spent_log true s played log is over = record { played = played; is_played = is; over = inr over }
+spent_log false s played log is over = record { played = played; is_played = is; over = inr over }
+
+pub stopped_log : (c : Bool) (s : ScenarioValue) (played log : List Record) → IsPlayedBy c s played → IsStoppedBy c s played log
+    → IsLogBy c s log
+stopped_log true s played log is (inl same) = record { played = played; is_played = is; ending = inl same }
+stopped_log true s played log is (inr cut) = record { played = played; is_played = is; ending = inr (inr cut) }
+stopped_log false s played log is same = record { played = played; is_played = is; ending = inl same }
+
+-- a whole log is one
+pub whole_log : (c : Bool) (s : ScenarioValue) (log : List Record) → IsWholeLogBy c s log → IsLogBy c s log
+whole_log true s log whole = record { played = whole.played; is_played = whole.is_played; ending = inr (inl whole.over) }
+whole_log false s log whole = record { played = whole.played; is_played = whole.is_played; ending = inr whole.over }
 
 -- ---- lawful logs
 
