@@ -1,12 +1,12 @@
 -- A scenario that starts nothing but joins, and has enough frames for them, never ends because more would be sent.
 -- Cited above: never_spent
-use Rattle.std.proofs.Common.{◌≡◌, ◌⊎◌, inl, inr, ℕ, ◌+◌, ◌≤◌, false, List, [], ◌∷◌, ◌++◌, filter, map, length, take, Option, None, Some, arith, refl, ap, sym, subst, ◌∙◌, append-nil, length-append}
-use Rattle.std.specs.Prelude.{IfSome}
+use Rattle.std.proofs.Common.{◌≡◌, ◌⊎◌, inl, inr, ℕ, ◌+◌, ◌≤◌, true, false, List, [], ◌∷◌, ◌++◌, filter, map, length, take, Option, None, Some, arith, refl, ap, sym, subst, ◌∙◌, append-nil, length-append}
+use Rattle.std.specs.Prelude.{IfSome, slice_get}
 use Rattle.std.specs.List.{filter_map}
 use Rattle.std.proofs.lemmas.List.{map-append}
 use Rattle.std.proofs.lemmas.List.Elements.{filter_map-append}
 use Rattle.tap_name.specs.Settings.{SettingsValue}
-use Rattle.tap_scenario.specs.Scenario.{IsScript, ScenarioValue}
+use Rattle.tap_scenario.specs.Scenario.{ScenarioValue}
 use Rattle.tap_scenario.specs.declared.step.Step.{Step}
 use Rattle.tap_scenario.specs.declared.step.Step.TheVariants.{Abandon, Cast, Depart, Find, Join, Publish, Withdraw}
 use Rattle.tap_wire.specs.Spelling.{spelling}
@@ -14,7 +14,9 @@ use Rattle.tap_log.specs.Counts.{sent_count}
 use Rattle.tap_log.specs.Kinds.{is_carried}
 use Rattle.tap_log.specs.MoreRecords.{at_most_one}
 use Rattle.tap_log.specs.declared.record.Record.{Record}
-use Rattle.tap_log.specs.declared.record.Record.TheVariants.{Step as StepRecord}
+use Rattle.tap_log.specs.declared.record.Record.TheVariants.{Step as StepRecord, Taken}
+use Rattle.tap_log.specs.Log.{begun_steps}
+use Rattle.tap_history.specs.Moments.{has_number, outstanding}
 use Rattle.tap_history.specs.StepAsks.{actor_of, join_name}
 use Rattle.tap_rule.specs.Act.{act}
 use Rattle.tap_rule.specs.Event.{Start}
@@ -28,15 +30,13 @@ use Rattle.tap_safety.specs.Move.Move.{Begins, Delivers}
 use Rattle.tap_safety.specs.System.{System}
 use Rattle.tap_runs.specs.Course.{FollowStep, MayFollow, is_choice, move_of_group, system_of}
 use Rattle.tap_runs.specs.Group.{start_at}
-use Rattle.tap_runs.specs.Groups.{step_group}
 use Rattle.tap_runs.specs.Starts.{start_of_step}
 use Rattle.tap_runs.proofs.Frames.{starting_moves, step_moves, taken_moves}
 use Rattle.tap_runs.proofs.CourseGrows.{course_grows_holds}
 use Rattle.tap_runs.proofs.Nodes.{start_in}
 use Rattle.tap_runs.proofs.Within.{step_kind}
-use Rattle.tap_lawful.specs.Lawful.{IsPlayed}
 use Rattle.tap_lawful.specs.Next.{beginning_in, begun_count}
-use Rattle.tap_lawful.proofs.Coming.{BeginsNext, TakesDue, comes_may, coming, due_waits}
+use Rattle.tap_lawful.proofs.Coming.{comes_may, coming, due_waits}
 use Rattle.tap_lawful.proofs.BegunSteps.{played_steps}
 use Rattle.tap_safe_runs.specs.Safe.{IsRun}
 use Rattle.tap_safe_runs.proofs.Lawful.{lawful_logs_are_safe}
@@ -98,11 +98,10 @@ module _ (p : SettingsValue) (log : List Record) (s : System) where
 
 -- ---- a run
 
-module _ (s : ScenarioValue) (valid : IsScript s) (alone : AsksForJoinsAlone s) (enough : HasEnoughFrames s) (played : List Record)
-    (is : IsPlayed s played) where
-  run : IsRun (beginning_in s) played
-  run = lawful_logs_are_safe.runs s played valid is
-
+-- a run, whose steps are the scenario's first ones
+module _ (s : ScenarioValue) (alone : AsksForJoinsAlone s) (enough : HasEnoughFrames s) (played : List Record)
+    (run : IsRun (beginning_in s) played) (follows : begun_steps played ≡ take (begun_count played) s.steps)
+    (within : sent_count played ≤ s.frames) where
   -- how many joins were accepted, and how many steps of the scenario are joins
   abbrev join_total : ℕ
   join_total = length (joined_in (moves_of played))
@@ -116,7 +115,7 @@ module _ (s : ScenarioValue) (valid : IsScript s) (alone : AsksForJoinsAlone s) 
   accepts_alone : AcceptsJoinsAlone played
   accepts_alone =
       alone_begun (is_carried played) played
-      (subst (λ l. filter is_other_start l ≡ []) (sym (played_steps s played is))
+      (subst (λ l. filter is_other_start l ≡ []) (sym follows)
       (first_steps (begun_count played) s.steps alone))
 
   moves_alone : JoinsAlone (moves_of played)
@@ -127,7 +126,7 @@ module _ (s : ScenarioValue) (valid : IsScript s) (alone : AsksForJoinsAlone s) 
   joins_few =
       let accepted = ap length (has_joins (beginning_in s) played run).joins in
       let begun = joins_begun (is_carried played) played in
-      let first = ap (λ l. length (filter_map join_name l)) (played_steps s played is) in
+      let first = ap (λ l. length (filter_map join_name l)) follows in
       omega (arith, accepted, begun, first)
 
   -- with a move that starts no join few frames are sent
@@ -175,66 +174,78 @@ module _ (s : ScenarioValue) (valid : IsScript s) (alone : AsksForJoinsAlone s) 
         ∙ sym (ap length (sent_one p (system_of played) (traffic_in played) move))
         ∙ sym (ap (λ (r : Traffic). length r.sent) (traffic_with (beginning_in s) played run move))
 
-    -- of a frame that is taken
-    taken_few : TakesDue s played group → sent_count (played ++ group) ≤ s.frames
-    taken_few taken =
-        let inv = (runs_are_sound (beginning_in s) played run).invariant.basis in
-        let arrives = may_take (beginning_in s) played run.course run.going inv taken.number (due_waits played taken.number taken.due) in
-        let moves : move_of_group played group ≡ Some (Delivers taken.number) =
-        sym (ap (move_of_group played) taken.is) ∙ taken_moves played taken.number _ in
-        let few = few_with (Some (Delivers taken.number))
-        (λ one same. subst (λ (m : Option Move). IfSome m (may_move s.settings (system_of played))) same arrives)
-        (tt, tt) refl in
-        let all = traffic_after
-        ∙ ap (λ m. length (traffic_of s.settings (rest (beginning_in s)) no_traffic (moves_of played ++ at_most_one m)).sent) moves in
-        let joins = joins_few in
-        let fewer = joins_of_first (begun_count played) s.steps in
-        let grows = most_grows s.settings join_total (member_total + join_total) step_total (member_total + step_total)
-        (omega (arith, joins, fewer)) (omega (arith, joins, fewer)) in
-        omega (arith, all, few, grows, enough)
+  -- of a frame that is taken
+  pub taken_few : (number : ℕ) (items : List Record) → MayFollow s.settings played (system_of played) (Taken number ∷ items)
+      → has_number (outstanding played) number ≡ true → sent_count (played ++ Taken number ∷ items) ≤ s.frames
+  taken_few number items may waits =
+      let inv = (runs_are_sound (beginning_in s) played run).invariant.basis in
+      let arrives = may_take (beginning_in s) played run.course run.going inv number waits in
+      let moves : move_of_group played (Taken number ∷ items) ≡ Some (Delivers number) = taken_moves played number items in
+      let few = few_with (Some (Delivers number))
+      (λ one same. subst (λ (m : Option Move). IfSome m (may_move s.settings (system_of played))) same arrives)
+      (tt, tt) refl in
+      let all = traffic_after (Taken number ∷ items) may
+      ∙ ap (λ m. length (traffic_of s.settings (rest (beginning_in s)) no_traffic (moves_of played ++ at_most_one m)).sent) moves in
+      let joins = joins_few in
+      let fewer = joins_of_first (begun_count played) s.steps in
+      let grows = most_grows s.settings join_total (member_total + join_total) step_total (member_total + step_total)
+      (omega (arith, joins, fewer)) (omega (arith, joins, fewer)) in
+      omega (arith, all, few, grows, enough)
 
-    -- of a step
-    step_few : BeginsNext s played group → sent_count (played ++ group) ≤ s.frames
-    step_few begins =
-        let p = s.settings in
-        let fits = this_step (begun_count played) s.steps begins.step alone begins.next in
-        let follows : MayFollow p played (system_of played) (step_group p played (begun_count played + 1) begins.step) =
-        subst (MayFollow p played (system_of played)) (sym begins.is) may in
-        let one = group_one p played (system_of played) (begun_count played + 1) begins.step _ fits follows in
-        by (subst (λ g. SendsAtMostOne p (system_of played) begins.step (move_of_group played g)) begins.is one)
-      where
-        counted : sent_count played ≡ length (traffic_in played).sent
-        counted = sent_is s.settings played (traffic_in played).sent (run_agrees (beginning_in s) played run).sent
+  -- of the step that is next
+  module _ (index : ℕ) (step : Step) (items : List Record)
+      (may : MayFollow s.settings played (system_of played) (StepRecord index step ∷ items))
+      (next : slice_get s.steps (begun_count played) ≡ Some step) where
+    abbrev begun : List Record
+    begun = StepRecord index step ∷ items
 
-        by : SendsAtMostOne s.settings (system_of played) begins.step (move_of_group played group) → sent_count (played ++ group) ≤ s.frames
-        by (inl nothing) =
-            let all = sent_after in
-            let none = ap length nothing in
-            let before = counted in
-            let within = is.within in
-            omega (arith, all, none, before, within)
-        by (inr (name, joins, one)) =
-            let all = sent_after in
-            let before = ap (λ (r : Traffic). length r.sent) (traffic_is (beginning_in s) played run.course) in
-            let moves : length (traffic_of s.settings (rest (beginning_in s)) no_traffic (moves_of played ++ [])).sent
-            ≡ length (traffic_of s.settings (rest (beginning_in s)) no_traffic (moves_of played)).sent =
-            ap (λ l. length (traffic_of s.settings (rest (beginning_in s)) no_traffic l).sent) (append-nil (moves_of played)) in
-            let few = few_with None (λ one wrong. absurd (cc)) tt refl in
-            let joined = joins_few in
-            let more = joins_with (begun_count played) s.steps begins.step name begins.next joins in
-            let next = most_more s.settings join_total (member_total + join_total) in
-            let grows = most_grows s.settings (join_total + 1) (member_total + join_total + 1) step_total (member_total + step_total)
-            (omega (arith, joined, more)) (omega (arith, joined, more)) in
-            omega (arith, all, before, moves, few, one, next, grows, enough)
+    counted : sent_count played ≡ length (traffic_in played).sent
+    counted = sent_is s.settings played (traffic_in played).sent (run_agrees (beginning_in s) played run).sent
+
+    by_sent : SendsAtMostOne s.settings (system_of played) step (move_of_group played begun) → sent_count (played ++ begun) ≤ s.frames
+    by_sent (inl nothing) =
+        let all = sent_after begun may in
+        let none = ap length nothing in
+        let before = counted in
+        omega (arith, all, none, before, within)
+    by_sent (inr (name, joins, one)) =
+        let all = sent_after begun may in
+        let before = ap (λ (r : Traffic). length r.sent) (traffic_is (beginning_in s) played run.course) in
+        let moves : length (traffic_of s.settings (rest (beginning_in s)) no_traffic (moves_of played ++ [])).sent
+        ≡ length (traffic_of s.settings (rest (beginning_in s)) no_traffic (moves_of played)).sent =
+        ap (λ l. length (traffic_of s.settings (rest (beginning_in s)) no_traffic l).sent) (append-nil (moves_of played)) in
+        let few = few_with None (λ one wrong. absurd (cc)) tt refl in
+        let joined = joins_few in
+        let more = joins_with (begun_count played) s.steps step name next joins in
+        let most = most_more s.settings join_total (member_total + join_total) in
+        let grows = most_grows s.settings (join_total + 1) (member_total + join_total + 1) step_total (member_total + step_total)
+        (omega (arith, joined, more)) (omega (arith, joined, more)) in
+        omega (arith, all, before, moves, few, one, most, grows, enough)
+
+    pub step_few : sent_count (played ++ begun) ≤ s.frames
+    step_few =
+        let fits = this_step (begun_count played) s.steps step alone next in
+        by_sent (group_one s.settings played (system_of played) index step items fits may)
+
+-- ---- a run that isn't carried
 
 pub never_spent : NeverSpent
 never_spent s played log valid alone enough is spent =
+    let run = lawful_logs_are_safe.runs s played valid is in
+    let follows = played_steps s played is in
     let may = comes_may s played spent.group spent.next in
     let over = spent.over in
+    let p = s.settings in
+    let May : List Record → Type 0 = λ g. MayFollow p played (system_of played) g in
     let few : sent_count (played ++ spent.group) ≤ s.frames =
     elim (coming s played spent.group spent.next) [
-      | inl taken ↦ taken_few s valid alone enough played is spent.group may taken
-      | inr begins ↦ step_few s valid alone enough played is spent.group may begins
+      | inl taken ↦
+          subst (λ g. sent_count (played ++ g) ≤ s.frames) taken.is
+          (taken_few s alone enough played run follows is.within taken.number _ (subst May (sym taken.is) may)
+          (due_waits played taken.number taken.due))
+      | inr begins ↦
+          subst (λ g. sent_count (played ++ g) ≤ s.frames) begins.is
+          (step_few s alone enough played run follows is.within (begun_count played + 1) begins.step _ (subst May (sym begins.is) may) begins.next)
     ] in
     absurd (omega (arith, over, few))
 

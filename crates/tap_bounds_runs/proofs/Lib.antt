@@ -11,3 +11,4 @@ mod JoinsBegun
 pub mod Enough
 mod Since
 pub mod AtRest
+pub mod CarriedEnough

@@ -7,6 +7,7 @@ use Rattle.tap_scenario.specs.Scenario.{IsScript, ScenarioValue}
 use Rattle.tap_log.specs.declared.record.Record.{Record}
 use Rattle.tap_history.specs.StepAsks.{join_name}
 use Rattle.tap_lawful.specs.Lawful.{IsFinished, IsPlayed, IsSpent, IsWholeLogOf}
+use Rattle.tap_lawful.specs.Runs.{IsRunSoFar, IsSpentBy}
 use Rattle.tap_bounds_runs.specs.Joins.{most_of_joins, is_other_start}
 
 -- the names that the steps of a scenario have join
@@ -26,6 +27,11 @@ HasEnoughFrames s =
 abbrev pub NeverSpent : Type 0
 NeverSpent = (s : ScenarioValue) (played log : List Record) → IsScript s → AsksForJoinsAlone s → HasEnoughFrames s → IsPlayed s played
     → IsSpent s played log → ⊥
+
+-- So it is of each run, carried or not as the scenario is.
+abbrev pub RunsAreNeverSpent : Type 0
+RunsAreNeverSpent = (s : ScenarioValue) (played log : List Record) → IsScript s → AsksForJoinsAlone s → HasEnoughFrames s
+    → IsRunSoFar s played → IsSpentBy s.carrier s played log → ⊥
 
 -- all steps of the scenario were run, as the log says
 pub record IsRunToItsEnd (s : ScenarioValue) (log : List Record) : Type 0 where

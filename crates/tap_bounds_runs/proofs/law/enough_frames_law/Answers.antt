@@ -1,3 +1,4 @@
+use Rattle.tap_bounds_runs.proofs.CarriedEnough.{runs_are_never_spent}
 use Rattle.tap_bounds_runs.proofs.Enough.{ends_finished, never_spent}
 use Rattle.tap_bounds_runs.proofs.law.enough_frames_law.Goals as goal
 
@@ -6,3 +7,6 @@ returns-clause-spent c = never_spent
 
 pub returns-clause-finished : goal.returns-clause-finished
 returns-clause-finished c = ends_finished
+
+pub returns-clause-runs : goal.returns-clause-runs
+returns-clause-runs c = runs_are_never_spent
