@@ -13,3 +13,10 @@ mod FewStay
 pub mod Headline
 mod HasInvariant
 mod AsLogged
+mod Openings
+mod CarriedEnds
+mod CarriedMoments
+mod CarriedTaken
+pub mod CarriedHeadline
+mod CarriedPrinted
+pub mod Runs

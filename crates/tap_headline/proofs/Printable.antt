@@ -71,7 +71,7 @@ left_at_first : (s : ScenarioValue) → left_of s (begin_record (beginning_in s)
 unfolding sent_number taken_number
 left_at_first s = omega arith
 
-frames_few : (digits : ℕ) → most_frames digits ≤ 500000
+pub frames_few : (digits : ℕ) → most_frames digits ≤ 500000
 frames_few digits =
     elim (cases_Bool (nat_le digits 8)) [
       | inl few ↦ rw few (omega arith)
@@ -80,12 +80,12 @@ frames_few digits =
 
 -- ---- the log of a run that isn't over
 
--- the records after the beginning, of which there are fewer than six million
-record AreLater (s : ScenarioValue) (log : List Record) : Type 0 where
-  later : List Record
-  is : log ≡ begin_record (beginning_in s) ∷ later
-  print : All (CanPrint s.settings) later
-  few : length later < 6000000
+-- the records after `Begin`, of which there are fewer than twenty million
+pub record AreLater (s : ScenarioValue) (log : List Record) : Type 0 where
+  pub later : List Record
+  pub is : log ≡ begin_record (beginning_in s) ∷ later
+  pub print : All (CanPrint s.settings) later
+  pub few : length later < 20000000
 
 played_later : (s : ScenarioValue) (log : List Record) → IsScript s → IsPlayed s log → AreLater s log
 played_later s log valid played =
@@ -111,7 +111,7 @@ played_later s log valid played =
 
 -- ---- how a run ends
 
-later_with : (s : ScenarioValue) (played end : List Record) → AreLater s played → All (CanPrint s.settings) end → length end ≤ 2
+pub later_with : (s : ScenarioValue) (played end : List Record) → AreLater s played → All (CanPrint s.settings) end → length end ≤ 2000000
     → CanBePrinted (played ++ end)
 later_with s played end parts print short =
     let p = s.settings in
@@ -134,12 +134,12 @@ later_with s played end parts print short =
               (are_printable p items (All-tail (CanPrint p) item items all)),
         )
 
-one_end : (s : ScenarioValue) (played : List Record) (last : Record) → AreLater s played → CanPrint s.settings last
+pub one_end : (s : ScenarioValue) (played : List Record) (last : Record) → AreLater s played → CanPrint s.settings last
     → CanBePrinted (played ++ last ∷ [])
 one_end s played last parts can =
     let P = CanPrint s.settings in later_with s played (last ∷ []) parts (All-cons P last [] can (All-nil P)) (omega arith)
 
-two_end : (s : ScenarioValue) (played : List Record) (first last : Record) → AreLater s played → CanPrint s.settings first
+pub two_end : (s : ScenarioValue) (played : List Record) (first last : Record) → AreLater s played → CanPrint s.settings first
     → CanPrint s.settings last → CanBePrinted (played ++ first ∷ last ∷ [])
 two_end s played first last parts can other =
     let P = CanPrint s.settings in

@@ -1,6 +1,6 @@
 -- Each log of a run begins as its scenario does, with the scenario's first steps, and has the headline, also if the run is over.
 -- Cited above: logs_follow_scripts, logs_have_headline
-use Rattle.std.proofs.Common.{◌≡◌, inl, inr, ℕ, zero, suc, ◌+◌, List, [], ◌∷◌, ◌++◌, length, take, Some, refl, ap, sym, subst, ◌∙◌, arith, append-nil, length-append}
+use Rattle.std.proofs.Common.{◌≡◌, inl, inr, ℕ, suc, ◌+◌, List, [], ◌∷◌, ◌++◌, length, take, Some, refl, ap, sym, subst, ◌∙◌, arith, append-nil, length-append}
 use Rattle.std.specs.Prelude.{slice_get}
 use Rattle.std.proofs.lemmas.List.Elements.{filter_map-append}
 use Rattle.tap_scenario.specs.declared.step.Step.{Step}
@@ -16,7 +16,7 @@ use Rattle.tap_lawful.specs.Next.{beginning_in, begun_count}
 use Rattle.tap_runs.specs.Groups.{step_group, taken_group}
 use Rattle.tap_lawful.specs.Lawful.{IsFinished, IsPlayed, IsSpent, step_alone}
 use Rattle.tap_lawful.proofs.Coming.{coming}
-use Rattle.tap_lawful.proofs.BegunSteps.{played_steps}
+use Rattle.tap_lawful.proofs.BegunSteps.{played_steps, take_next}
 use Rattle.tap_safe_runs.specs.Safe.{IsRun}
 use Rattle.tap_safe_runs.proofs.Lawful.{lawful_logs_are_safe}
 use Rattle.tap_headline.specs.Headline.{HasHeadline}
@@ -35,36 +35,43 @@ played_follows s log played = record { begins = (records_of (groups_of log), pla
 
 -- ---- what ends a run
 
+-- the steps are the scenario's first ones
+abbrev pub StepsFollow : ScenarioValue → List Record → Type 0
+StepsFollow s log = begun_steps log ≡ take (begun_count log) s.steps
+
 -- these records begin these steps
-with_end : (s : ScenarioValue) (played end : List Record) (steps : List Step) → FollowsScript s played → begun_steps end ≡ steps
-    → begun_steps played ++ steps ≡ take (length (begun_steps played ++ steps)) s.steps → FollowsScript s (played ++ end)
-with_end s played end steps follows ends taken =
+with_end : (s : ScenarioValue) (played end : List Record) (steps : List Step) → begun_steps end ≡ steps
+    → begun_steps played ++ steps ≡ take (length (begun_steps played ++ steps)) s.steps → StepsFollow s (played ++ end)
+with_end s played end steps ends taken =
     let all : begun_steps (played ++ end) ≡ begun_steps played ++ steps =
     filter_map-append step_of played end ∙ ap (λ l. begun_steps played ++ l) ends in
-    record {
-      begins = (follows.begins.0 ++ end, ap (λ l. l ++ end) follows.begins.1);
-      steps = all ∙ taken ∙ sym (ap (λ l. take (length l) s.steps) all);
-    }
+    all ∙ taken ∙ sym (ap (λ l. take (length l) s.steps) all)
+
+pub no_more_steps : (s : ScenarioValue) (played end : List Record) → StepsFollow s played → begun_steps end ≡ [] → StepsFollow s (played ++ end)
+no_more_steps s played end follows none =
+    let same = append-nil (begun_steps played) in
+    with_end s played end [] none (same ∙ follows ∙ sym (ap (λ l. take (length l) s.steps) same))
+
+pub one_more_step : (s : ScenarioValue) (played end : List Record) (step : Step) → StepsFollow s played → begun_steps end ≡ step ∷ []
+    → slice_get s.steps (begun_count played) ≡ Some step → StepsFollow s (played ++ end)
+one_more_step s played end step follows begins next =
+    with_end s played end (step ∷ []) begins
+    (ap (λ l. l ++ step ∷ []) follows ∙ sym (take_next (begun_count played) s.steps step next)
+    ∙ ap (λ n. take n s.steps) (let size = length-append (begun_steps played) (step ∷ []) in
+    let e : suc (begun_count played) ≡ length (begun_steps played ++ step ∷ []) = omega (arith, size) in e))
+
+with_begins : (s : ScenarioValue) (played end : List Record) → FollowsScript s played → StepsFollow s (played ++ end)
+    → FollowsScript s (played ++ end)
+with_begins s played end follows steps =
+    record { begins = (follows.begins.0 ++ end, ap (λ l. l ++ end) follows.begins.1); steps = steps }
 
 no_more : (s : ScenarioValue) (played end : List Record) → FollowsScript s played → begun_steps end ≡ [] → FollowsScript s (played ++ end)
-no_more s played end follows none =
-    let same = append-nil (begun_steps played) in
-    with_end s played end [] follows none (same ∙ follows.steps ∙ sym (ap (λ l. take (length l) s.steps) same))
-
--- one more element of the first ones
-take_next : {X : Type 0} (n : ℕ) (xs : List X) (x : X) → slice_get xs n ≡ Some x → take (suc n) xs ≡ take n xs ++ x ∷ []
-take_next zero [] x at = absurd (cc)
-take_next zero (first ∷ xs) x at = let same : first ≡ x = cc in ap (λ y. y ∷ []) same
-take_next (suc n) [] x at = absurd (cc)
-take_next (suc n) (first ∷ xs) x at = ap (λ l. first ∷ l) (take_next n xs x at)
+no_more s played end follows none = with_begins s played end follows (no_more_steps s played end follows.steps none)
 
 one_more : (s : ScenarioValue) (played end : List Record) (step : Step) → FollowsScript s played → begun_steps end ≡ step ∷ []
     → slice_get s.steps (begun_count played) ≡ Some step → FollowsScript s (played ++ end)
 one_more s played end step follows begins next =
-    with_end s played end (step ∷ []) follows begins
-    (ap (λ l. l ++ step ∷ []) follows.steps ∙ sym (take_next (begun_count played) s.steps step next)
-    ∙ ap (λ n. take n s.steps) (let size = length-append (begun_steps played) (step ∷ []) in
-    let e : suc (begun_count played) ≡ length (begun_steps played ++ step ∷ []) = omega (arith, size) in e))
+    with_begins s played end follows (one_more_step s played end step follows.steps begins next)
 
 finished_follows : (s : ScenarioValue) (played log : List Record) → FollowsScript s played → IsFinished s played log → FollowsScript s log
 finished_follows s played log follows over =

@@ -1,4 +1,6 @@
+ghost use Rattle.tap_headline.specs.Carried.{CarriedLogsHaveHeadline, ReducedLogsAreRuns};
 ghost use Rattle.tap_headline.specs.LastRecord.{LogsEndSo};
+ghost use Rattle.tap_headline.specs.Runs.{RunLogsArePrinted, RunLogsEndSo, RunLogsFollow, RunLogsHaveHeadline};
 ghost use Rattle.tap_headline.specs.Scripts.{LogsFollowScripts, LogsHaveHeadline};
 ghost use Rattle.tap_headline.specs.Printable.{LogsCanBePrinted};
 ghost use Rattle.tap_headline.specs.Endings.{EndingsChangeNothing};
@@ -57,4 +59,30 @@ pub fn endings_law()
 /// Rule: docs/FORMATS.md, "The course of a run" and "The ways a run ends".
 pub fn ended_headline_law()
     ensures { EndedLogsHaveHeadline }
+{}
+
+/// The headline over a carrier, whatever packets are lost, repeated or late: up to each moment of the log of a carried run its reduced log has
+/// the headline, and both say the same of frames, nodes and pairs. No frame is taken twice, and at a rest each that was sent was taken. So it is
+/// also once how the run has ended stands there, and if memory ran out within a group, of which the end is then no moment. Until the run is over
+/// its reduced log is that of a run.
+///
+/// It does nothing: its contract is the law.
+///
+/// Rule: docs/PROTOCOL.md, "Packets", and docs/FORMATS.md, "The ways a run ends".
+pub fn carried_headline_law()
+    ensures headline { CarriedLogsHaveHeadline }
+    ensures runs { ReducedLogsAreRuns }
+{}
+
+/// The log of a run, carried or not as its scenario is, begins as this does, and its steps are the scenario's first ones. It has the headline.
+/// It has neither `Finished` nor `Spent` at its end unless the run is over, and it can be printed.
+///
+/// It does nothing: its contract is the law.
+///
+/// Rule: docs/FORMATS.md, "What comes next", "The ways a run ends" and "The printed text".
+pub fn runs_law()
+    ensures follows { RunLogsFollow }
+    ensures headline { RunLogsHaveHeadline }
+    ensures ends { RunLogsEndSo }
+    ensures printed { RunLogsArePrinted }
 {}

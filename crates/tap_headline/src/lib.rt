@@ -6,4 +6,7 @@
 
 mod law;
 
-pub use law::{ended_headline_law, endings_law, headline_law, last_record_law, printable_law};
+pub use law::{
+    carried_headline_law, ended_headline_law, endings_law, headline_law, last_record_law,
+    printable_law, runs_law,
+};
