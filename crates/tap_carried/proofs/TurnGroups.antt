@@ -1,5 +1,5 @@
 -- What becomes of the group of a turn in the reduced log.
--- Cited above: reduced-append, turn_group
+-- Cited above: reduced-append, turn_group, turn_reduced
 use Rattle.std.proofs.Common.{◌≡◌, ◌⊎◌, inl, inr, ℕ, Bool, true, false, not, List, [], ◌∷◌, ◌++◌, filter, All, refl, ap, sym, ◌∙◌, cond, append-nil}
 use Rattle.std.proofs.lemmas.Bool.{false≢true}
 use Rattle.std.proofs.lemmas.List.Elements.{All-cons, All-head, All-tail, filter-append}

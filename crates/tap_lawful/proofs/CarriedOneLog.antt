@@ -1,7 +1,8 @@
 -- A scenario has one log of its carried runs: of two one begins with the other.
-use Rattle.std.proofs.Common.{◌≡◌, ◌⊎◌, inl, inr, ℕ, ◌<◌, ◌≤◌, true, List, [], ◌∷◌, ◌++◌, length, take, drop, Some, ap, sym, subst, ◌∙◌, arith, append-nil, append_assoc}
+-- Cited above: one_carried_log_holds
+use Rattle.std.proofs.Common.{◌≡◌, ◌⊎◌, inl, inr, ℕ, ◌+◌, ◌<◌, ◌≤◌, true, List, [], ◌∷◌, ◌++◌, length, take, drop, Some, ap, sym, subst, ◌∙◌, arith, append-nil, append_assoc, length-append}
 use Rattle.std.proofs.lemmas.Bool.{cases_lt}
-use Rattle.std.proofs.lemmas.List.{take-append-drop, take-take}
+use Rattle.std.proofs.lemmas.List.{length-take-le, take-append-drop, take-take}
 use Rattle.tap_scenario.specs.Scenario.{ScenarioValue}
 use Rattle.tap_log.specs.declared.record.Record.{Record}
 use Rattle.tap_log.specs.declared.record.Record.TheVariants.{Finished, Spent}
@@ -152,5 +153,72 @@ module _ (s : ScenarioValue) where
         | inr (inr on) ↦ absurd (not_over also.played log.played other log.is_played on also.over)
       ]
 
+  -- ---- a log that was cut
+
+  module _ (played log : List Record) (is_played : IsCarriedPlayed s played) (cut : IsCarriedCut s played log) where
+    cut_size : length log ≡ length played + cut.kept
+    cut_size =
+        ap length cut.log_is ∙ length-append played (take cut.kept cut.group)
+        ∙ ap (λ n. length played + n) (length-take-le cut.kept cut.group (let few = cut.few in omega (arith, few)))
+
+    -- it stops before a run that goes on does
+    stops_before : (other : List Record) → GoesAfter played other → length log < length other
+    stops_before other on =
+        let same : cut.group ≡ on.group = same_next played cut.group on.group cut.next on.comes in
+        let few = cut.few in
+        let group = ap length same in
+        let size = cut_size in
+        let first = length-append (played ++ on.group) on.later in
+        let whole = ap length on.is in
+        let both = length-append played on.group in
+        omega (arith, few, group, size, whole, first, both)
+
+    not_played : IsCarriedPlayed s log → ⊥
+    not_played other =
+        let size = cut_size in
+        let some = cut.some in
+        elim (played_compared played log is_played other) [
+          | inl same ↦ let none = ap length same in absurd (omega (arith, size, some, none))
+          | inr (inl on) ↦ let less = stops_before log on in absurd (omega (arith, less))
+          | inr (inr on) ↦
+              let whole = ap length on.is in
+              let first = length-append (log ++ on.group) on.later in
+              let both = length-append log on.group in
+              absurd (omega (arith, size, some, whole, first, both))
+        ]
+
+    -- if it were over
+    over_here : IsCarriedOver s played log → ⊥
+    over_here (inl finished) = let both = sym finished.none ∙ cut.next in absurd (cc)
+    over_here (inr spent) =
+        let same : spent.group ≡ cut.group = same_next played spent.group cut.group spent.next cut.next in
+        let over : s.frames < sent_count (played ++ cut.group) = subst (λ g. s.frames < sent_count (played ++ g)) same spent.over in
+        let one = cut.first over in
+        let size = cut_size in
+        let few = cut.few in
+        let group = ap length same in
+        let front = length-take-le 1 spent.group (let e : 1 ≤ length spent.group = omega (arith, few, group, one) in e) in
+        let whole = ap length spent.log_is in
+        let end = length-append played (take 1 spent.group ++ Spent s.frames ∷ []) in
+        let last = length-append (take 1 spent.group) (Spent s.frames ∷ []) in
+        absurd (omega (arith, size, one, front, whole, end, last))
+
+    not_whole : IsWholeCarriedLogOf s log → ⊥
+    not_whole other =
+        elim (played_compared played other.played is_played other.is_played) [
+          | inl same ↦ over_here (subst (λ l. IsCarriedOver s l log) (sym same) other.over)
+          | inr (inl on) ↦
+              let less = stops_before other.played on in
+              let rest = ending_after other.played log (inr (inl other.over)) in
+              let whole = ap length rest.1 in
+              let size = length-append other.played rest.0 in
+              absurd (omega (arith, less, whole, size))
+          | inr (inr on) ↦ absurd (not_over other.played played log is_played on other.over)
+        ]
+
+    uncut : IsCarriedPlayed s log ⊎ IsWholeCarriedLogOf s log → ⊥
+    uncut (inl other) = not_played other
+    uncut (inr other) = not_whole other
+
 pub one_carried_log_holds : OneCarriedLog
-one_carried_log_holds = record { first = one_begins; whole = one_whole }
+one_carried_log_holds = record { first = one_begins; whole = one_whole; uncut = uncut }

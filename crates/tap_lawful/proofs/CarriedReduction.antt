@@ -1,6 +1,5 @@
 -- The log of a carried run is one of turns that may follow, so its reduced log is that of a run.
--- Cited above: by_carried, carried_run, carried_runs_reduce, run_more, run_starts, script_steps,
--- whole_next
+-- Cited above: by_carried, carried_run, carried_runs_reduce, run_more, run_starts, script_steps, whole_next
 use Rattle.std.proofs.Common.{◌≡◌, ◌≤◌, Bool, true, List, [], ◌∷◌, ◌++◌, All, refl, sym, subst, ap, ◌∙◌, append-nil, append_assoc, arith}
 use Rattle.tap_scenario.specs.Scenario.{ScenarioValue}
 use Rattle.tap_scenario.specs.Step.{IsStep}

@@ -17,5 +17,5 @@ pub mod CarriedRunMoves
 pub mod CarriedGrowth
 mod CarriedAlike
 mod SameGroups
-mod CarriedOneLog
+pub mod CarriedOneLog
 pub mod Runs

@@ -19,7 +19,7 @@ use Rattle.tap_lawful.specs.CarriedRuns.{IsCarriedLogOf, IsCarriedScript}
 use Rattle.tap_lawful.specs.Lawful.{IsLogOf, IsOver, step_alone}
 use Rattle.tap_lawful.specs.Next.{beginning_in, begun_count}
 use Rattle.tap_lawful.specs.PlayedLaws.{BeginsAlike, BeginsWith}
-use Rattle.tap_lawful.specs.RunLaws.{RunsByCarrier, left_by}
+use Rattle.tap_lawful.specs.RunLaws.{RunsByCarrier, left_to_run}
 use Rattle.tap_lawful.specs.Runs.{HasNoRootSets, IsFinishedBy, IsLawful, IsLogBy, IsPlayedBy, IsSpentBy, IsStoppedBy, IsWholeLogBy, comes_next}
 use Rattle.tap_lawful.proofs.Alike.{played_alike}
 use Rattle.tap_lawful.proofs.BegunSteps.{played_all, played_steps}
@@ -110,7 +110,7 @@ module _ (s : ScenarioValue) where
   more_by false log group is valid played comes within = played_more s log group played comes within
 
   less_by : (c : Bool) (log group : List Record) → s.carrier ≡ c → IsScript s → IsPlayedBy c s log → comes_next c s log ≡ Some group
-      → sent_count (log ++ group) ≤ s.frames → left_by c s (log ++ group) < left_by c s log
+      → sent_count (log ++ group) ≤ s.frames → left_to_run c s (log ++ group) < left_to_run c s log
   less_by true log group is valid played comes within =
       carried_groups_move.falls s log group (record { valid = valid; carried = is }) played comes within
   less_by false log group is valid played comes within = less_left s log group comes within

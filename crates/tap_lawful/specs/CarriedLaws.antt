@@ -13,7 +13,7 @@ use Rattle.tap_packets.specs.MayCome.{MayCome}
 use Rattle.tap_carried.specs.LogTurns.{IsLogOfTurns, beginning_records}
 use Rattle.tap_carried.specs.ReducedRuns.{IsRunOfTurns, ReducesToRun}
 use Rattle.tap_lawful.specs.CarriedNext.{carried_next_group}
-use Rattle.tap_lawful.specs.CarriedRuns.{IsCarriedLogOf, IsCarriedPlayed, IsCarriedScript, IsWholeCarriedLogOf}
+use Rattle.tap_lawful.specs.CarriedRuns.{IsCarriedCut, IsCarriedLogOf, IsCarriedPlayed, IsCarriedScript, IsWholeCarriedLogOf}
 use Rattle.tap_lawful.specs.Next.{beginning_in, begun_count}
 use Rattle.tap_lawful.specs.PlayedLaws.{BeginsAlike, BeginsWith, index_of}
 
@@ -70,8 +70,11 @@ pub record CarriedGrows : Type 0 where
 
 -- ---- one log
 
--- Of two logs of carried runs of a scenario one begins with the other, and two whole ones are one.
+-- Of two logs of carried runs of a scenario one begins with the other, and two whole ones are one. One that was cut within a group is neither that
+-- of a run which isn't over, at the end of a group, nor a whole one.
 pub record OneCarriedLog : Type 0 where
   pub first : (s : ScenarioValue) (one other : List Record) → IsCarriedLogOf s one → IsCarriedLogOf s other
       → BeginsWith one other ⊎ BeginsWith other one
   pub whole : (s : ScenarioValue) (one other : List Record) → IsWholeCarriedLogOf s one → IsWholeCarriedLogOf s other → one ≡ other
+  pub uncut : (s : ScenarioValue) (played log : List Record) → IsCarriedPlayed s played → IsCarriedCut s played log
+      → IsCarriedPlayed s log ⊎ IsWholeCarriedLogOf s log → ⊥

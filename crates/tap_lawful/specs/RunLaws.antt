@@ -11,13 +11,13 @@ use Rattle.tap_lawful.specs.PlayedLaws.{BeginsAlike, BeginsWith, left_of}
 use Rattle.tap_lawful.specs.Runs.{BeginsAsScenario, IsRunLog, IsRunSoFar, IsWholeRunLog, next_records}
 
 -- a measure of what is left of a run, carried or not
-abbrev pub left_by : Bool → ScenarioValue → List Record → ℕ
-left_by true s log = measure_of s log
-left_by false s log = left_of s log
+abbrev pub left_to_run : Bool → ScenarioValue → List Record → ℕ
+left_to_run true s log = measure_of s log
+left_to_run false s log = left_of s log
 
 -- of a run of the scenario
 abbrev pub left_in : ScenarioValue → List Record → ℕ
-left_in s log = left_by s.carrier s log
+left_in s log = left_to_run s.carrier s log
 
 -- A run begins with its beginning alone. With the group that comes next its log is that of a run again, and less is left of it, unless more
 -- frames would be sent than may be. Its steps are the scenario's first ones, and all of them if no group comes next. It is the log of a run of

@@ -54,7 +54,7 @@ pub fn carried_growth_law()
 {}
 
 /// A scenario has one log of carried runs, however far one has come: of two one begins with the other, and two of runs that are over are
-/// one.
+/// one. A log that was cut within a group is neither whole nor that of a run so far.
 ///
 /// It does nothing: its contract is the law.
 ///
