@@ -1,5 +1,5 @@
 -- Each log of a carried run has the headline, at each of its moments.
--- Cited above: carried_logs_have_headline, reduced_logs_are_runs
+-- Cited above: carried_logs_have_headline
 use Rattle.std.proofs.Common.{◌≡◌, inl, inr, ℕ, suc, ◌-◌, ◌≤◌, All, true, false, List, [], ◌∷◌, ◌++◌, length, take, ap, sym, subst, ◌∙◌, arith}
 use Rattle.std.proofs.Math.Seq.{take-length}
 use Rattle.std.proofs.lemmas.Bool.{cases_lt}
@@ -23,9 +23,10 @@ use Rattle.tap_carried.proofs.SameNodes.{SaysAlike}
 use Rattle.tap_carried.proofs.TurnGroups.{reduced-append}
 use Rattle.tap_lawful.specs.CarriedRuns.{CarriedComesNext, IsCarriedCut, IsCarriedLogOf, IsCarriedPlayed, IsCarriedScript, IsCarriedSpent}
 use Rattle.tap_lawful.specs.Next.{beginning_in}
+use Rattle.tap_lawful.proofs.CarriedOneLog.{one_carried_log_holds}
 use Rattle.tap_lawful.proofs.CarriedReduction.{carried_run, carried_runs_reduce, whole_next}
 use Rattle.tap_lawful.proofs.CarriedWhole.{after_alone}
-use Rattle.tap_headline.specs.Carried.{AtCarriedMomentsOf, CarriedLogsHaveHeadline, IsAllTakenAtRest, IsMomentOfReduced, ReducedLogsAreRuns}
+use Rattle.tap_headline.specs.Carried.{AtCarriedMomentsOf, CarriedLogsHaveHeadline, IsAllTakenAtRest, IsMomentOfReduced, ReducedLogsAreRuns, UncutLogsKeepMoments}
 use Rattle.tap_headline.specs.Endings.{MayEnd}
 use Rattle.tap_headline.specs.Headline.{HasHeadline}
 use Rattle.tap_headline.proofs.CarriedEnds.{as_run, cut_alike, cut_frames, finished_alike, finished_ends, finished_frames, kept, reduced_run}
@@ -212,3 +213,7 @@ carried_logs_have_headline s log script of =
 pub reduced_logs_are_runs : ReducedLogsAreRuns
 reduced_logs_are_runs s log m script played moment =
     as_run (beginning_in s) (take m log) (carried_runs_reduce.reduces_at s log m script played moment)
+
+pub uncut_logs_keep_moments : UncutLogsKeepMoments
+uncut_logs_keep_moments s log m kind moment =
+    record { moment = moment; uncut = λ played is_played cut. absurd (one_carried_log_holds.uncut s played log is_played cut kind) }

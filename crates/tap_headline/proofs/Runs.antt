@@ -1,5 +1,5 @@
 -- What holds of each log of a run, carried or not.
--- Cited above: run_logs_are_printed, run_logs_end_so, run_logs_follow, run_logs_have_headline
+-- Cited above: carried_heads, run_logs_are_printed, run_logs_end_so, run_logs_follow, run_logs_have_headline
 use Rattle.std.proofs.Common.{◌≡◌, inl, inr, suc, ◌-◌, Bool, true, false, List, [], ◌∷◌, ◌++◌, length, take, drop, All, Some, refl, ap, sym, subst, ◌∙◌, arith}
 use Rattle.std.specs.List.{cons_option}
 use Rattle.std.proofs.lemmas.Bool.{cases_lt}
@@ -167,6 +167,10 @@ run_heads s log valid of =
     let first = begin_first s.carrier b begins.0 in
     let is : log ≡ begin_record b ∷ first.0 = begins.1 ∙ first.1 in
     subst (All (HasReadHead s.settings)) (sym is) (begun_heads b first.0 (subst CanBePrinted is (printed_by s.carrier s log refl valid of)))
+
+-- so in the log of a carried run
+pub carried_heads : (s : ScenarioValue) (log : List Record) → IsCarriedScript s → IsCarriedLogOf s log → All (HasReadHead s.settings) log
+carried_heads s log script of = run_heads s log script.valid (subst (λ c. IsLogBy c s log) (sym script.carried) of)
 
 pub run_logs_are_printed : RunLogsArePrinted
 run_logs_are_printed = record {

@@ -1,7 +1,7 @@
 -- The headline of each log of a carried run, however far the run has come and however it has ended.
 --
 -- Rule: docs/FORMATS.md, "The course of a run" and "The ways a run ends".
-use Rattle.std.specs.Prelude.{◌≡◌, ◌<◌, ◌≤◌, ℕ, true, List, ◌∷◌, ◌++◌, length, take}
+use Rattle.std.specs.Prelude.{◌≡◌, ◌⊎◌, ◌<◌, ◌≤◌, ℕ, true, List, ◌∷◌, ◌++◌, length, take}
 use Rattle.tap_scenario.specs.Scenario.{ScenarioValue}
 use Rattle.tap_log.specs.declared.record.Record.{Record}
 use Rattle.tap_log.specs.declared.record.Record.TheVariants.{Taken}
@@ -11,7 +11,7 @@ use Rattle.tap_history.specs.Moments.{is_moment, is_rest}
 use Rattle.tap_packets.specs.MayCome.{HasJustArrived}
 use Rattle.tap_packets.specs.PacketLaws.{times_taken}
 use Rattle.tap_carried.specs.ReducedLogs.{AgreesWithReduced}
-use Rattle.tap_lawful.specs.CarriedRuns.{IsCarriedCut, IsCarriedLogOf, IsCarriedPlayed, IsCarriedScript}
+use Rattle.tap_lawful.specs.CarriedRuns.{IsCarriedCut, IsCarriedLogOf, IsCarriedPlayed, IsCarriedScript, IsWholeCarriedLogOf}
 use Rattle.tap_lawful.specs.Next.{beginning_in}
 use Rattle.tap_safe_runs.specs.Safe.{IsRun}
 use Rattle.tap_headline.specs.Headline.{HasHeadline}
@@ -57,6 +57,11 @@ pub record CarriedRunHasHeadline (s : ScenarioValue) (log : List Record) : Type 
 -- each log of a carried run has it: that of one which isn't over, or which ended early for want of memory, and that of one which is over
 abbrev pub CarriedLogsHaveHeadline : Type 0
 CarriedLogsHaveHeadline = (s : ScenarioValue) (log : List Record) → IsCarriedScript s → IsCarriedLogOf s log → CarriedRunHasHeadline s log
+
+-- Only a log that was cut within a group has its end as no moment: in that of a run which isn't over, and in a whole one, each moment counts.
+abbrev pub UncutLogsKeepMoments : Type 0
+UncutLogsKeepMoments = (s : ScenarioValue) (log : List Record) (m : ℕ) → IsCarriedPlayed s log ⊎ IsWholeCarriedLogOf s log
+    → is_moment log m ≡ true → IsCarriedMoment s log m
 
 -- Up to each moment of one that isn't over, the reduced log is that of a run: so all that is proved of runs holds of it.
 abbrev pub ReducedLogsAreRuns : Type 0

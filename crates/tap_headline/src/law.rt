@@ -1,4 +1,4 @@
-ghost use Rattle.tap_headline.specs.Carried.{CarriedLogsHaveHeadline, ReducedLogsAreRuns};
+ghost use Rattle.tap_headline.specs.Carried.{CarriedLogsHaveHeadline, ReducedLogsAreRuns, UncutLogsKeepMoments};
 ghost use Rattle.tap_headline.specs.LastRecord.{LogsEndSo};
 ghost use Rattle.tap_headline.specs.Runs.{RunLogsArePrinted, RunLogsEndSo, RunLogsFollow, RunLogsHaveHeadline};
 ghost use Rattle.tap_headline.specs.Scripts.{LogsFollowScripts, LogsHaveHeadline};
@@ -63,14 +63,15 @@ pub fn ended_headline_law()
 
 /// The headline over a carrier, whatever packets are lost, repeated or late: up to each moment of the log of a carried run its reduced log has
 /// the headline, and both say the same of frames, nodes and pairs. No frame is taken twice, and at a rest each that was sent was taken. So it is
-/// also once how the run has ended stands there, and if memory ran out within a group, of which the end is then no moment. Until the run is over
-/// its reduced log is that of a run.
+/// also once how the run has ended stands there, and if memory ran out within a group, of which the end is then no moment: in other logs each moment
+/// counts. Until the run is over its reduced log is that of a run.
 ///
 /// It does nothing: its contract is the law.
 ///
 /// Rule: docs/PROTOCOL.md, "Packets", and docs/FORMATS.md, "The ways a run ends".
 pub fn carried_headline_law()
     ensures headline { CarriedLogsHaveHeadline }
+    ensures moments { UncutLogsKeepMoments }
     ensures runs { ReducedLogsAreRuns }
 {}
 
