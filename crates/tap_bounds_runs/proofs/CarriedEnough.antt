@@ -1,6 +1,6 @@
 -- A carried run that starts nothing but joins, and has enough frames for them, never ends because more would be sent.
 -- Cited above: runs_are_never_spent
-use Rattle.std.proofs.Common.{◌≡◌, inl, inr, ℕ, ◌+◌, ◌≤◌, Bool, true, false, List, ◌∷◌, ◌++◌, length, take, Some, refl, ap, sym, subst, ◌∙◌, arith, append-nil}
+use Rattle.std.proofs.Common.{◌≡◌, ◌⊎◌, inl, inr, ℕ, ◌+◌, ◌≤◌, Bool, true, false, List, ◌∷◌, ◌++◌, length, take, Some, refl, ap, sym, subst, ◌∙◌, arith, append-nil}
 use Rattle.std.specs.Prelude.{slice_get}
 use Rattle.tap_scenario.specs.Scenario.{IsScript, ScenarioValue}
 use Rattle.tap_scenario.specs.declared.step.Step.{Step}
@@ -24,14 +24,14 @@ use Rattle.tap_carried.proofs.SameTold.{kept_sent, reduced_tells}
 use Rattle.tap_carried.proofs.TurnGroups.{reduced-append, turn_reduced}
 use Rattle.tap_lawful.specs.CarriedRuns.{CarriedComesNext, IsCarriedPlayed, IsCarriedScript}
 use Rattle.tap_lawful.specs.Next.{beginning_in, begun_count}
-use Rattle.tap_lawful.specs.Runs.{IsPlayedBy, IsSpentBy}
+use Rattle.tap_lawful.specs.Runs.{IsFinishedBy, IsPlayedBy, IsSpentBy, IsWholeLogBy}
 use Rattle.tap_lawful.proofs.CarriedComing.{begun_head, carried_coming}
 use Rattle.tap_lawful.proofs.CarriedGrowth.{carried_steps}
 use Rattle.tap_lawful.proofs.CarriedReduction.{carried_run, script_steps}
 use Rattle.tap_lawful.proofs.CarriedTurns.{turn_of_group}
 use Rattle.tap_lawful.proofs.CarriedWhole.{is_turn}
 use Rattle.tap_safe_runs.specs.Safe.{IsRun}
-use Rattle.tap_bounds_runs.specs.Enough.{AsksForJoinsAlone, HasEnoughFrames, RunsAreNeverSpent}
+use Rattle.tap_bounds_runs.specs.Enough.{AsksForJoinsAlone, HasEnoughFrames, RunsAreNeverSpent, RunsEndFinished}
 use Rattle.tap_bounds_runs.proofs.Enough.{never_spent, step_few, taken_few}
 
 module _ (s : ScenarioValue) (script : IsCarriedScript s) (alone : AsksForJoinsAlone s) (enough : HasEnoughFrames s) (played : List Record)
@@ -106,3 +106,18 @@ never_by false s played log is valid alone enough is_played spent = never_spent 
 
 pub runs_are_never_spent : RunsAreNeverSpent
 runs_are_never_spent s played log valid alone enough is_played spent = never_by s.carrier s played log refl valid alone enough is_played spent
+
+-- ---- so a whole run comes to its end
+
+whole_by : (c : Bool) (s : ScenarioValue) (log : List Record) → IsWholeLogBy c s log
+    → (played : List Record) × IsPlayedBy c s played × (IsFinishedBy c s played log ⊎ IsSpentBy c s played log)
+whole_by true s log whole = (whole.played, whole.is_played, whole.over)
+whole_by false s log whole = (whole.played, whole.is_played, whole.over)
+
+pub runs_end_finished : RunsEndFinished
+runs_end_finished s log valid alone enough whole =
+    let parts = whole_by s.carrier s log whole in
+    elim parts.2 [
+      | inl finished ↦ record { played = parts.0; is_played = parts.1; finished = finished }
+      | inr spent ↦ absurd (runs_are_never_spent s parts.0 log valid alone enough parts.1 spent)
+    ]

@@ -7,7 +7,7 @@ use Rattle.tap_scenario.specs.Scenario.{IsScript, ScenarioValue}
 use Rattle.tap_log.specs.declared.record.Record.{Record}
 use Rattle.tap_history.specs.StepAsks.{join_name}
 use Rattle.tap_lawful.specs.Lawful.{IsFinished, IsPlayed, IsSpent, IsWholeLogOf}
-use Rattle.tap_lawful.specs.Runs.{IsRunSoFar, IsSpentBy}
+use Rattle.tap_lawful.specs.Runs.{IsFinishedBy, IsRunSoFar, IsSpentBy, IsWholeRunLog}
 use Rattle.tap_bounds_runs.specs.Joins.{most_of_joins, is_other_start}
 
 -- the names that the steps of a scenario have join
@@ -43,3 +43,13 @@ pub record IsRunToItsEnd (s : ScenarioValue) (log : List Record) : Type 0 where
 abbrev pub EndsFinished : Type 0
 EndsFinished = (s : ScenarioValue) (log : List Record) → IsScript s → AsksForJoinsAlone s → HasEnoughFrames s → IsWholeLogOf s log
     → IsRunToItsEnd s log
+
+-- the same, carried or not as the scenario is
+pub record HasRunToItsEnd (s : ScenarioValue) (log : List Record) : Type 0 where
+  pub played : List Record
+  pub is_played : IsRunSoFar s played
+  pub finished : IsFinishedBy s.carrier s played log
+
+abbrev pub RunsEndFinished : Type 0
+RunsEndFinished = (s : ScenarioValue) (log : List Record) → IsScript s → AsksForJoinsAlone s → HasEnoughFrames s → IsWholeRunLog s log
+    → HasRunToItsEnd s log

@@ -1,5 +1,5 @@
 ghost use Rattle.tap_bounds_runs.specs.AtRest.{LookupsAtRestSendFew, PublicationsAtRestSendFew};
-ghost use Rattle.tap_bounds_runs.specs.Enough.{EndsFinished, NeverSpent, RunsAreNeverSpent};
+ghost use Rattle.tap_bounds_runs.specs.Enough.{EndsFinished, NeverSpent, RunsAreNeverSpent, RunsEndFinished};
 ghost use Rattle.tap_bounds_runs.specs.Few.{FramesAreFew, FramesAreKnown};
 ghost use Rattle.tap_bounds_runs.specs.Joins.{JoinsSendFew, RunJoinsSendFew};
 ghost use Rattle.tap_safe_runs.specs.SafeLogs.{OfLawfulLogs};
@@ -43,15 +43,16 @@ pub fn join_frames_law()
 
 /// No run, carried or not, of a scenario in which nothing but joins is started is over because more frames would be sent than may be, if as
 /// many may be as its joins send at most: with J the number of its join steps, `J * (16 * (N + 1) * (N + 1) + n + 2)`, and N that of its
-/// members and join steps. So the whole log of one that isn't carried says that all its steps were run.
+/// members and join steps. So its whole log says that all its steps were run.
 ///
 /// It does nothing: its contract is the law.
 ///
 /// Rule: docs/FORMATS.md, "The ways a run ends".
 pub fn enough_frames_law()
     ensures spent { NeverSpent }
-    ensures runs { RunsAreNeverSpent }
     ensures finished { EndsFinished }
+    ensures runs { RunsAreNeverSpent }
+    ensures whole { RunsEndFinished }
 {}
 
 /// In a run a lookup that is accepted at a rest, and all that is taken after it, sends at most one frame more than names have digits, if no

@@ -51,6 +51,7 @@ IsWholeLogBy false s log = IsWholeLogOf s log
 
 -- ---- the runs of a scenario are carried exactly if it is
 
+-- the group that comes next
 abbrev pub next_records : ScenarioValue → List Record → Option (List Record)
 next_records s log = comes_next s.carrier s log
 
