@@ -4,10 +4,10 @@ use Rattle.std.proofs.Common.{◌≡◌, ℕ, suc, ◌+◌, ◌<◌, ◌≤◌, 
 use Rattle.std.specs.Prelude.{if◌then◌else◌}
 use Rattle.std.proofs.lemmas.Bool.{ne_eqb, eq-eqb}
 use Rattle.std.proofs.lemmas.List.{map-append}
-use Rattle.std.proofs.lemmas.List.Elements.{All-head, All-tail, filter-append}
+use Rattle.std.proofs.lemmas.List.Elements.{All-cons, All-head, All-nil, All-tail, filter-append}
 use Rattle.tap_log.specs.declared.record.Record.{Record}
 use Rattle.tap_log.specs.Reduced.{is_added, reduced}
-use Rattle.tap_ledger.specs.Woven.{Remark, remark_after, remark_at, remarks_at, remarks_from, remarks_of, woven, woven_from}
+use Rattle.tap_ledger.specs.Woven.{Remark, RemarksWithin, remark_after, remark_at, remarks_at, remarks_from, remarks_of, woven, woven_from}
 
 -- ---- the remarks at one place
 
@@ -165,6 +165,23 @@ reduced_within (item ∷ items) = by (is_added item) (reduced_within items)
     by true few = omega (arith, few)
     by false few = omega (arith, few)
 
+-- the remarks of a log, before which there are so many plain records, stand within it
+within_from : (count : ℕ) (log : List Record) → All (λ r. r.plain_before ≤ count + length (reduced log)) (remarks_from count log)
+within_from count [] = All-nil (λ r. r.plain_before ≤ count + 0)
+within_from count (item ∷ items) = by (is_added item) (within_from count items) (within_from (suc count) items)
+  where
+    by : (added : Bool) → All (λ r. r.plain_before ≤ count + length (reduced items)) (remarks_from count items)
+        → All (λ r. r.plain_before ≤ suc count + length (reduced items)) (remarks_from (suc count) items)
+        → All (λ r. r.plain_before ≤ count + length (cond {A = List Record} (not added) (item ∷ reduced items) (reduced items)))
+        (if added then remark_at count item ∷ remarks_from count items else remarks_from (suc count) items)
+    by true here later =
+        All-cons (λ r. r.plain_before ≤ count + length (reduced items)) (remark_at count item) (remarks_from count items) (omega arith) here
+    by false here later = λ k d within. let below = later k d within in omega (arith, below)
+
+-- the remarks of a whole log stand within its plain records
+pub remarks_within : (log : List Record) → RemarksWithin (reduced log) (remarks_of log)
+remarks_within log = λ k d within. let below = within_from 0 log k d within in omega (arith, below)
+
 -- ---- how a whole log grows
 
 -- after the last remark stand plain records alone
@@ -188,8 +205,7 @@ grows_from count (x ∷ xs) more added all =
     ∙ sym (append_assoc (remarks_at count added) (x ∷ woven_from (suc count) xs added) more)
 
 -- Plain records come last in the whole log, if no remark says that it stands after more of them than there were.
-pub woven_grows : (log more : List Record) (added : List Remark) → All (λ r. r.plain_before ≤ length log) added
-    → woven (log ++ more) added ≡ woven log added ++ more
+pub woven_grows : (log more : List Record) (added : List Remark) → RemarksWithin log added → woven (log ++ more) added ≡ woven log added ++ more
 woven_grows log more added all = grows_from 0 log more added (λ k d within. let below = all k d within in omega (arith, below))
 
 remark_from : (count : ℕ) (log : List Record) (added : List Remark) (item : Record)

@@ -1,5 +1,5 @@
 -- A run's whole log, and the log without what only a carrier tells.
-use Rattle.std.specs.Prelude.{ℕ, suc, nat_eq, if◌then◌else◌, List, [], ◌∷◌, ◌++◌, filter, length, map}
+use Rattle.std.specs.Prelude.{ℕ, suc, ◌≤◌, nat_eq, if◌then◌else◌, List, [], ◌∷◌, ◌++◌, filter, length, map, All}
 use Rattle.tap_log.specs.declared.record.Record.{Record}
 use Rattle.tap_log.specs.Reduced.{is_added}
 
@@ -28,6 +28,10 @@ woven_from count (item ∷ items) added = remarks_at count added ++ item ∷ wov
 -- the whole log: the plain records, and each remark after as many of them as it says
 abbrev pub woven : List Record → List Remark → List Record
 woven records added = woven_from 0 records added
+
+-- each remark stands after no more plain records than there are
+abbrev pub RemarksWithin : List Record → List Remark → Type 0
+RemarksWithin records added = All (λ r. r.plain_before ≤ length records) added
 
 -- the remarks of a log before which there are so many plain records
 abbrev pub remarks_from : ℕ → List Record → List Remark

@@ -17,7 +17,7 @@ ghost use Rattle.tap_ledger.specs.Added.{CanAdd};
 ghost use Rattle.tap_ledger.specs.KeptLedger.{leaver_next};
 ghost use Rattle.tap_ledger.specs.NameLists.{accepted_after};
 ghost use Rattle.tap_ledger.specs.Quiet.{is_moving_step, is_quiet, is_request};
-ghost use Rattle.tap_ledger.specs.Woven.{remark_after, woven};
+ghost use Rattle.tap_ledger.specs.Woven.{RemarksWithin, remark_after, woven};
 
 use crate::counts::{counted_cast, counted_ticket};
 use crate::flights::{OutstandingFrame, follow, frame_of, payload};
@@ -350,11 +350,13 @@ impl Ledger {
         self.made -= 1;
     }
 
-    /// The whole log: the plain records, and each remark after as many of them as it says.
+    /// The whole log: the plain records, and each remark after as many of them as it says. No remark says more of them than there are, so
+    /// what is added comes last.
     ///
     /// Rule: docs/FORMATS.md, "Groups and moments".
     pub fn log(&self) -> &Log
         ensures records { result.now.records ≡ woven self.now.records self.now.added }
+        ensures within { RemarksWithin self.now.records self.now.added }
         ensures reduced { reduced result.now.records ≡ self.now.records }
         ensures begun { 1 ≤ length self.now.records }
         ensures uncarried { is_carried self.now.records ≡ false }
