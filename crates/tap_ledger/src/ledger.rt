@@ -1,4 +1,4 @@
-ghost use Rattle.std.specs.Prelude.{◌≡◌, ◌==◌, ◌≤◌, ◌+◌, ◌-◌, max, [], ◌∷◌, ◌++◌, true, false, if◌then◌else◌, length, nat_eq, option_copied, option_map, position, slice_get, IfOk, IfSome, OnOk, OnErr, None, Some};
+ghost use Rattle.std.specs.Prelude.{◌≡◌, ◌==◌, ◌≤◌, ◌+◌, ◌-◌, max, [], ◌∷◌, ◌++◌, true, false, if◌then◌else◌, length, nat_eq, option_copied, option_map, position, slice_get, IfOk, IfSome, IsOk, OnOk, OnErr, None, Some};
 ghost use Rattle.tap_name.specs.Names.{has_name};
 ghost use Rattle.tap_log.specs.declared.record.Record.TheVariants.{Begin, Sent};
 ghost use Rattle.tap_log.specs.Counts.{cast_count, resent_count, sent_count, ticket_count};
@@ -21,6 +21,7 @@ ghost use Rattle.tap_ledger.specs.Woven.{RemarksWithin, remark_after, woven};
 
 use crate::counts::{counted_cast, counted_ticket};
 use crate::flights::{OutstandingFrame, follow, frame_of, payload};
+use crate::memory::{of_frames, past_numbers};
 use crate::pairs::{Pairs, stays_published};
 use crate::quiet::{moves_node, tells_more, tells_of_request};
 use crate::roll::Roll;
@@ -77,6 +78,7 @@ impl Model for Ledger {
     ghost invariant = { λ l. record {
       kept : Kept (reduced l.log.records) l.log.records l.settings l.frames l.roll.lists l.pairs.keys l.tickets l.casts l.leaver l.last;
       within : l.room ≤ l.made;
+      most : l.made ≤ 4294967295;
       room : LedgerHasRoom l.made l.log.spare l.frames.room l.roll.room l.pairs.room;
     } };
 }
@@ -116,7 +118,8 @@ impl Ledger {
         })
     }
 
-    /// Makes room for so many more records, of any kind, so that adding them takes no memory. A refused call changes nothing.
+    /// Makes room for so many more records, of any kind, so that adding them takes no memory. A refused call changes nothing. It isn't
+    /// refused if there is room for so many.
     ///
     /// Rule: docs/DECISIONS.md, "The logs of a run".
     #[inline(always)]
@@ -124,6 +127,7 @@ impl Ledger {
         ensures records { self.new.records ≡ self.old.records }
         ensures added { self.new.added ≡ self.old.added }
         ensures ok { OnOk result (self.new.spare ≡ max self.old.spare more) }
+        ensures at_hand { more ≤ self.old.spare → IsOk result }
         ensures err { OnErr result (self.new ≡ self.old) }
     {
         if more <= self.made {
@@ -327,9 +331,6 @@ impl Ledger {
         ensures spare { self.new.spare ≡ self.old.spare }
         ensures err { OnErr result (self.new ≡ self.old) }
     {
-        if self.made == usize::MAX {
-            return Err(NoMemory);
-        }
         self.log.reserve(self.made + 1)?;
         self.log.push_reserved(item);
         Ok(())
@@ -586,15 +587,12 @@ fn reserve_frames(frames: &mut Outstanding, more: usize) -> Result<(), NoMemory>
     ensures sent { frames.new.sent ≡ frames.old.sent }
     ensures frames { frames.new.frames ≡ frames.old.frames }
     ensures ok { OnOk result (frames.new.room ≡ max frames.old.room more) }
+    ensures most { IsOk result → more ≤ 4294967295 }
     ensures err { OnErr result (frames.new.room ≡ frames.old.room) }
 {
-    let Ok(more) = u32::try_from(more) else {
-        return Err(NoMemory);
-    };
-    match frames.reserve(more) {
-        Ok(()) => Ok(()),
-        Err(_) => Err(NoMemory),
-    }
+    let more = u32::try_from(more).map_err(past_numbers)?;
+    frames.reserve(more).map_err(of_frames)?;
+    Ok(())
 }
 
 // Who departs after one more record, unless no frame is outstanding then: before a group begins, who departs then.

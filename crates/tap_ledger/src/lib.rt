@@ -4,6 +4,7 @@
 mod counts;
 mod flights;
 mod ledger;
+mod memory;
 mod names;
 mod pairs;
 mod quiet;

@@ -4,6 +4,7 @@ ghost use Rattle.tap_log.specs.declared.record.Record.{Record};
 ghost use Rattle.tap_history.specs.Refusals.{begin_settings, damaged, first_refusal, first_some, is_only_core, is_readable, packets_of_step, refused_if, refuses_already_abandoned, refuses_already_published, refuses_departing, refuses_last_node, refuses_name_taken, refuses_no_such_byte, refuses_no_such_flight, refuses_no_such_node, refuses_not_at_rest, refuses_not_core, refuses_not_in_prefix, refuses_not_joining, refuses_not_published, refuses_readable, refuses_too_many_nodes, refuses_too_many_packets, unless_within};
 
 use crate::ledger::Ledger;
+use crate::memory::is_unread;
 use crate::steps::{
     abandon_name, asked_node, flight_place, join_name, publish_pair, suits_departure,
     suits_joining, withdraw_pair,
@@ -13,7 +14,7 @@ use tap_history::depart_name;
 use tap_log::{NoMemory, Refusal};
 use tap_name::{Name, Settings};
 use tap_scenario::Step;
-use tap_wire::{WireFault, decode};
+use tap_wire::decode;
 
 // The refusal, if its cause holds.
 fn refused_if(cause: bool, refusal: Refusal) -> Option<Refusal>
@@ -59,8 +60,7 @@ fn is_frame(alloc: Global, settings: &Settings, bytes: &[u8]) -> Result<bool, No
 {
     match decode(alloc, settings, bytes) {
         Ok(_) => Ok(true),
-        Err(WireFault::NoMemory) => Err(NoMemory),
-        Err(_) => Ok(false),
+        Err(fault) => is_unread(fault),
     }
 }
 

@@ -30,6 +30,7 @@ invariant_of-result c =
       kept = subst (λ w. Keeps (reduced w) w) (sym log) (subst (λ l. Keeps l (first ∷ [])) (sym (reduced_plain [] first (begin_plain settings frames members)))
           (kept_begin settings frames members c.new.result roll.lists pairs.keys c.new.ensures lists c.new-2.ensures.none));
       within = omega arith;
+      most = omega arith;
       room = record { in_log = omega arith; in_frames = omega arith; in_roll = omega arith; in_pairs = omega arith };
     }
 

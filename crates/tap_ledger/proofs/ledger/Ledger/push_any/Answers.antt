@@ -87,6 +87,7 @@ invariant_of-self c =
           ∙ ap (λ d. leaver_next (begins_group false item) d c.departs.result leaver) departing
           ∙ ap (λ s. leaver_next (begins_group false item) (departing_of log) s leaver) leaves));
       within = omega (arith, within, some);
+      most = let most = c.self.invariant.most in omega (arith, most);
       room = record {
         in_log = let was = room.in_log in omega (arith, was, some, within, c.push_reserved.ensures.spare);
         in_frames = let was = room.in_frames in omega (arith, was, some, within, c.follow.ensures.room);

@@ -66,6 +66,7 @@ invariant_of-self c =
           ∙ ap (λ d. leaver_next (begins_group false item) d None leaver) departing
           ∙ ap (λ d. leaver_next (begins_group false item) (departing_of log) d leaver) (sym tells.nobody.departs)));
       within = omega (arith, within, some);
+      most = let most = c.self.invariant.most in omega (arith, most);
       room = record {
         in_log = let was = room.in_log in omega (arith, was, some, within, c.push_reserved.ensures.spare);
         in_frames = let was = room.in_frames in omega (arith, was, some, within, c.follow.ensures.room);

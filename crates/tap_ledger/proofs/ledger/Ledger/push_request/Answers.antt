@@ -79,6 +79,7 @@ invariant_of-self c =
           (ap (λ n. c.self.inside.casts + n) c.counted_cast.ensures)
           (request_leaves last item (departing_of log) leaver tells));
       within = omega (arith, within, some);
+      most = let most = c.self.invariant.most in omega (arith, most);
       room = record {
         in_log = let was = room.in_log in omega (arith, was, some, within, c.push_reserved.ensures.spare);
         in_frames = let was = room.in_frames in omega (arith, was, some, within, c.follow.ensures.room);

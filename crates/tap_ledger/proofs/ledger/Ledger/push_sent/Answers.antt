@@ -68,6 +68,7 @@ invariant_of-self c =
           (count_stays casts (begun_cast item) tells.begun)
           (sent_leaves last number bytes (departing_of log) leaver tells));
       within = omega (arith, within, some);
+      most = let most = c.self.invariant.most in omega (arith, most);
       room = record {
         in_log = let was = room.in_log in omega (arith, was, some, within, c.push_reserved.ensures.spare);
         in_frames = let was = room.in_frames in omega (arith, was, some, within, left);

@@ -18,6 +18,7 @@ invariant_of-self-2 c =
       kept = kept_told whole c.push_reserved.new.self.records l.settings l.frames l.roll.lists l.pairs.keys l.tickets l.casts l.leaver l.last
           item c.requires is c.self.invariant.kept;
       within = c.self.invariant.within;
+      most = c.self.invariant.most;
       room = record {
         in_log = omega (arith, most, c.in_ok-reserve.ensures.ok, c.push_reserved.ensures.spare);
         in_frames = room.in_frames;

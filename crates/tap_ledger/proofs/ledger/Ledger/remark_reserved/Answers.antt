@@ -16,6 +16,7 @@ invariant_of-self c =
       kept = kept_told l.log.records c.push_reserved.new.self.records l.settings l.frames l.roll.lists l.pairs.keys l.tickets l.casts
           l.leaver l.last item c.requires.added c.push_reserved.ensures.records c.self.invariant.kept;
       within = omega (arith, within, some);
+      most = let most = c.self.invariant.most in omega (arith, most);
       room = record {
         in_log = let was = room.in_log in omega (arith, was, some, within, c.push_reserved.ensures.spare);
         in_frames = let was = room.in_frames in omega (arith, was, some, within);
