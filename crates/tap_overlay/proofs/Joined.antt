@@ -1,5 +1,5 @@
 -- A node that has come and has started its join.
-use Rattle.std.proofs.Common.{◌≡◌, ℕ, List, Some, Result, Ok, Err, ap, sym, subst, ◌∙◌}
+use Rattle.std.proofs.Common.{◌≡◌, ℕ, List, Some, Result, Ok, Err, refl, ap, sym, subst, ◌∙◌}
 use Rattle.std.specs.Prelude.{◌≢◌, OnErr, OnOk, bytes_eq}
 use Rattle.std.specs.List.Sorted.{IsSorted}
 use Rattle.std.specs.Map.{keys_of}
@@ -16,6 +16,20 @@ use Rattle.indexmap.specs.IndexMap.{IndexMap, Updates}
 use Rattle.tap_overlay.specs.Overlay.{AreNodesOf, ChangesOnly, HasNameAndSettings}
 use Rattle.tap_overlay.specs.Step.{HasJoined, joined}
 use Rattle.tap_overlay.proofs.Nodes.{changes_only, own_names}
+
+-- want of memory is the one refusal of a join
+module _ (p : SettingsValue) (name via : List ℕ) (node is : NodeValue) (given : Result Turn NodeFault)
+    (new : node ≡ running (joiner p name)) (answers : AnswersAs (start_outcome node (Join via)) node given is) where
+  no_other : (fault : NodeFault) → fault ≢ NoMemory → given ≡ Err fault → ⊥
+  no_other fault other refused =
+      let served : given ≢ Err NoMemory = λ short. let same : Err fault ≡ Err NoMemory = sym refused ∙ short in other (cc) in
+      let never : Err fault ≡ Ok (turn_made (joiner p name) (joined p name via)) =
+      sym refused ∙ answers.answer served ∙ ap (λ (n : NodeValue). (start_outcome n (Join via)).answer) new in
+      cc
+
+  pub only_want : (fault : NodeFault) → given ≡ Err fault → fault ≡ NoMemory
+  only_want NoMemory refused = refl
+  only_want fault refused = absurd (no_other fault (λ same. cc) refused)
 
 -- answers that are one
 one_turn : (given : Result Turn NodeFault) (a b : Turn) → given ≡ Ok a → given ≡ Ok b → a ≡ b

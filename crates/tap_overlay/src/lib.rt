@@ -4,6 +4,7 @@
 
 mod fault;
 mod law;
+mod memory;
 mod overlay;
 mod start;
 mod step;

@@ -9,6 +9,7 @@ ghost use Rattle.tap_overlay.specs.Overlay.{is_core_node_status, member_at, node
 ghost use Rattle.tap_node.specs.Outcome.{MayWant, start_outcome, take_outcome};
 
 use crate::fault::OverlayFault;
+use crate::memory::only_memory;
 use crate::start::Start;
 use crate::step::{start_at, take_at};
 use indexmap::IndexMap;
@@ -113,7 +114,7 @@ impl Overlay {
                 self.nodes.insert_sorted(name, node)?;
                 Ok(turn)
             }
-            Err(_) => Err(NoMemory),
+            Err(fault) => Err(only_memory(fault)),
         }
     }
 
