@@ -3,6 +3,7 @@ pub mod NamedSteps
 pub mod Courses
 pub mod AddedGroups
 pub mod WorldLogs
+pub mod WholeLogs
 pub mod Endings
 pub mod HeadlineOfWorld
 pub mod StandingAlone

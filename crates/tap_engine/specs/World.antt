@@ -7,7 +7,7 @@ use Rattle.tap_log.specs.declared.record.Record.{Record}
 use Rattle.tap_log.specs.declared.record.Refusal.{Refusal}
 use Rattle.tap_history.specs.Names.{names_of}
 use Rattle.tap_name.specs.Names.{has_name}
-use Rattle.tap_ledger.specs.Woven.{Remark}
+use Rattle.tap_ledger.specs.Woven.{Remark, woven}
 use Rattle.tap_node.specs.Node.{NodeValue, running}
 use Rattle.tap_overlay.specs.Overlay.{node_among}
 use Rattle.tap_safety.specs.AtRest.{system_at_rest}
@@ -25,6 +25,10 @@ pub record WorldValue : Type 0 where
   pub refused : Option Refusal
   pub stopped : Bool
   pub nodes : List (List ℕ × NodeValue)
+
+-- its whole log: the plain records, and each remark after as many of them as it says
+abbrev pub whole_log : WorldValue → List Record
+whole_log w = woven w.log w.added
 
 -- the node of a name that was ever present
 abbrev pub node_of : WorldValue → List ℕ → Option NodeValue

@@ -3,7 +3,7 @@ ghost use Rattle.tap_name.specs.Names.{has_name};
 ghost use Rattle.tap_log.specs.Counts.{ticket_count};
 ghost use Rattle.tap_log.specs.Log.{begun_steps};
 ghost use Rattle.tap_log.specs.Reduced.{is_added, reduced};
-ghost use Rattle.tap_ledger.specs.Woven.{woven};
+ghost use Rattle.tap_ledger.specs.Woven.{RemarksWithin};
 ghost use Rattle.tap_scenario.specs.Step.{IsStep};
 ghost use Rattle.tap_history.specs.GroupLaws.{IsNumbered};
 ghost use Rattle.tap_history.specs.Moments.{is_still, outstanding};
@@ -65,7 +65,7 @@ impl World {
     ghost use Rattle.tap_runs.specs.Beginning.{IsWithinLimits};
     ghost use Rattle.tap_engine.specs.Outcome.{IsNextIndex, MayGoOn, MayNote, Remarks, WorldAnswersAs, deliver_outcome, finish_outcome, mark_outcome, note_outcome, step_outcome};
     ghost use Rattle.tap_engine.specs.WorldLog.{IsWorldLog};
-    ghost use Rattle.tap_engine.specs.World.{HasBegun, HasNodesOfLog, node_of, nodes_running};
+    ghost use Rattle.tap_engine.specs.World.{HasBegun, HasNodesOfLog, node_of, nodes_running, whole_log};
 
     /// The world of members that are core nodes at rest. Its log has the record `Begin` alone, and nothing is outstanding.
     ///
@@ -315,7 +315,8 @@ impl World {
     ///
     /// Rule: docs/FORMATS.md, "The course of a run".
     pub fn log(&self) -> &Log
-        ensures records { result.now.records ≡ woven self.now.log self.now.added }
+        ensures records { result.now.records ≡ whole_log self.now }
+        ensures within { RemarksWithin self.now.log self.now.added }
         ensures reduced { reduced result.now.records ≡ self.now.log }
         ensures unremarked { self.now.added ≡ [] → result.now.records ≡ self.now.log }
         ensures course { IsWorldLog self.now }
