@@ -1,5 +1,5 @@
 -- What the nodes say of an observation that isn't refused.
-use Rattle.std.proofs.Common.{◌≡◌, ℕ, zero, suc, Bool, true, false, not, List, [], ◌∷◌, get_or, Option, None, Some, is_some, refl, ap, sym, ◌∙◌}
+use Rattle.std.proofs.Common.{◌≡◌, ◌≢◌, ◌⊎◌, inl, inr, ℕ, zero, suc, Bool, true, false, not, List, [], ◌∷◌, get_or, Option, None, Some, is_some, refl, ap, sym, ◌∙◌}
 use Rattle.std.specs.Prelude.{◌&&◌, option_and_then}
 use Rattle.std.specs.Option.{option_map}
 use Rattle.tap_name.specs.Names.{AreNames, has_name}
@@ -7,6 +7,7 @@ use Rattle.tap_name.specs.Root.{root}
 use Rattle.tap_name.proofs.Membership.{has_name-Decides}
 use Rattle.tap_name.proofs.Names.{among-All}
 use Rattle.tap_name.specs.Name.{IsName}
+use Rattle.tap_scenario.specs.declared.step.Step.{Step}
 use Rattle.tap_scenario.specs.declared.step.Step.TheVariants.{Pointers, Root, Table, Walk}
 use Rattle.tap_log.specs.declared.record.Record.{Record}
 use Rattle.tap_log.specs.declared.record.Refusal.{Refusal}
@@ -24,13 +25,15 @@ use Rattle.tap_node.specs.Node.{NodeValue, is_linked, running}
 use Rattle.tap_safety.specs.System.{System}
 use Rattle.tap_runs.specs.Course.{system_of}
 use Rattle.tap_runs.specs.CourseLaws.{is_present_node}
-use Rattle.tap_runs.specs.Observed.{has_ended, is_core_node, observed, pointers_record, table_record}
+use Rattle.tap_runs.specs.Observed.{counts_as_core, has_ended, is_core_node, observed, pointers_record, table_record}
 use Rattle.tap_runs.proofs.Nodes.{asked_is_present, cause_fails, first_none}
+use Rattle.tap_safe_runs.specs.Safe.{IsRun}
+use Rattle.tap_safe_runs.proofs.Safe.{runs_are_sound}
 use Rattle.tap_overlay.specs.Overlay.{node_at, nodes_lent}
 use Rattle.tap_overlay.proofs.Systems.{same_walks}
 use Rattle.tap_engine.specs.KeptEngine.{AreReady}
 use Rattle.tap_engine.specs.declared.engine.Engine.{Engine}
-use Rattle.tap_engine.proofs.Keeping.{on}
+use Rattle.tap_engine.proofs.Keeping.{on, seen}
 use Rattle.tap_engine.proofs.NamedSteps.{all_named}
 use Rattle.tap_engine.proofs.Starting.{agrees}
 
@@ -70,6 +73,24 @@ present_so : (found : Option NodeState) (node : NodeState) → found ≡ Some no
     → is_linked node.status ≡ true
 present_so found node at present = present_linked node.status (ap is_present_node (sym at) ∙ present)
 
+-- who is asked for a table or for pairs
+pub asks_table : (name : List ℕ) → asked_node (Table name) ≡ Some name
+unfolding asked_node
+asks_table name = refl
+
+pub asks_pairs : (name : List ℕ) → asked_node (Pointers name) ≡ Some name
+unfolding asked_node
+asks_pairs name = refl
+
+-- a node that is core, or leaves, counts as core
+core_counts : (found : Option NodeState) (node : NodeState) → found ≡ Some node → (node.status ≡ Core) ⊎ (node.status ≡ Leaving)
+    → is_core_node found ≡ true
+core_counts found node at core =
+    ap is_core_node at ∙ elim core [
+      | inl is ↦ ap counts_as_core is
+      | inr is ↦ ap counts_as_core is
+    ]
+
 -- a core node is there
 core_there : (found : Option NodeState) → is_core_node found ≡ true → is_some found ≡ true
 core_there None is = absurd (cc)
@@ -87,9 +108,10 @@ lent_so : (found : Option NodeState) (node : NodeValue) → option_map running f
 lent_so None node is = absurd (cc)
 lent_so (Some state) node is = let same : running state ≡ node = cc in record { state = state; at = refl; is = sym same }
 
-none_so : (found : Option NodeState) → option_map running found ≡ None → found ≡ None
-none_so None is = refl
-none_so (Some state) is = absurd (cc)
+-- a node that is present is lent
+present_lent : (found : Option NodeState) → is_present_node found ≡ true → is_some (option_map running found) ≡ true
+present_lent None present = absurd (cc)
+present_lent (Some node) present = refl
 
 module _ (m : Engine) (ready : AreReady m) where
   abbrev log : List Record
@@ -111,17 +133,18 @@ module _ (m : Engine) (ready : AreReady m) where
   pub lent_runs : (name : List ℕ) (node : NodeValue) → node_at m.overlay name ≡ Some node → node.ended ≡ false
   lent_runs name node at = ap (λ (n : NodeValue). n.ended) (lent_so (s.node name) node (sym (nodes_are name) ∙ at)).is
 
-  -- without a node there is none in the system
-  pub nobody_lent : (name : List ℕ) → node_at m.overlay name ≡ None → s.node name ≡ None
-  nobody_lent name none = none_so (s.node name) (sym (nodes_are name) ∙ none)
+  module _ (step : Step) (name : List ℕ) (asks : asked_node step ≡ Some name) (accepted : first_refusal log step ≡ None) where
+    -- the node that an accepted step asks is present
+    asked_present : is_present_node (s.node name) ≡ true
+    asked_present = sym ((agrees m ready).present name) ∙ asked_is_present log step name accepted asks
 
-  -- a node that is asked for its pairs has some
-  pub asked_linked : (name : List ℕ) (node : NodeValue) → first_refusal log (Pointers name) ≡ None → node_at m.overlay name ≡ Some node
-      → is_linked node.state.status ≡ true
-  unfolding asked_node
-  asked_linked name node accepted at =
-      present_so (s.node name) node.state (lent_state name node at)
-      (sym ((agrees m ready).present name) ∙ asked_is_present log (Pointers name) name accepted refl)
+    -- so it is there
+    pub asked_there : is_some (node_at m.overlay name) ≡ true
+    asked_there = ap is_some (nodes_are name) ∙ present_lent (s.node name) asked_present
+
+    -- and has a table and pointers
+    pub asked_linked : (node : NodeValue) → node_at m.overlay name ≡ Some node → is_linked node.state.status ≡ true
+    asked_linked node at = present_so (s.node name) node.state (lent_state name node at) asked_present
 
   -- ---- walks
 
@@ -153,20 +176,23 @@ module _ (m : Engine) (ready : AreReady m) where
   unfolding observed
   tabled_so name node item at is = is ∙ sym (ap (option_and_then (table_record name)) (lent_state name node at))
 
-  pub untabled_so : (name : List ℕ) → node_at m.overlay name ≡ None → None ≡ observed m.settings log s (Table name)
-  unfolding observed
-  untabled_so name none = sym (ap (option_and_then (table_record name)) (nobody_lent name none))
-
   pub held_so : (name : List ℕ) (node : NodeValue) (item : Option Record) → node_at m.overlay name ≡ Some node
       → item ≡ Some (pointers_record name node.state) → item ≡ observed m.settings log s (Pointers name)
   unfolding observed
   held_so name node item at is = is ∙ sym (ap (option_map (pointers_record name)) (lent_state name node at))
 
-  pub unheld_so : (name : List ℕ) → node_at m.overlay name ≡ None → None ≡ observed m.settings log s (Pointers name)
-  unfolding observed
-  unheld_so name none = sym (ap (option_map (pointers_record name)) (nobody_lent name none))
-
   -- ---- names
+
+  -- there is a core node
+  pub some_core : core_of log ≢ []
+  some_core = λ none.
+      let goes = on m ready in
+      let run : IsRun (seen m).beginning log = record { course = goes.course; going = goes.going; steps = ready.kept.named } in
+      let has = (runs_are_sound (seen m).beginning log run).invariant.basis.has_core in
+      let is : has_name (core_of log) has.name ≡ true =
+      (agrees m ready).core has.name ∙ core_counts (s.node has.name) has.core.state has.core.is has.core.core in
+      let never : false ≡ true = ap (λ l. has_name l has.name) (sym none) ∙ is in
+      absurd (cc)
 
   -- each core node was ever present
   core_ever : (x : List ℕ) → has_name (core_of log) x ≡ true → has_name (names_of log) x ≡ true

@@ -1,5 +1,5 @@
 -- What courses say of their nodes and frames.
-use Rattle.std.proofs.Common.{◌≡◌, ℕ, ◌+◌, ◌<◌, ◌≤◌, ◌^◌, true, false, List, length, All, Option, None, Some, IfSome, Ok, subst, arith}
+use Rattle.std.proofs.Common.{◌≡◌, ℕ, ◌<◌, ◌≤◌, ◌^◌, true, false, List, length, All, Option, None, Some, IfSome, Ok, subst, arith}
 use Rattle.tap_cast.specs.Casts.{level_of_cast}
 use Rattle.tap_wire.specs.Reading.{frame_of}
 use Rattle.tap_wire.specs.Spelling.{spelling}

@@ -1,5 +1,5 @@
 -- The node of an accepted start: it is there, or it is a new one that joins; and what it makes of the start.
-use Rattle.std.proofs.Common.{◌≡◌, ◌≢◌, ◌⊎◌, inl, inr, ℕ, ◌+◌, ◌≤◌, true, false, List, [], Option, None, Some, Result, Ok, Err, IsOk, is_some, refl, ap, sym, subst, ◌∙◌, arith}
+use Rattle.std.proofs.Common.{◌≡◌, ◌≢◌, ◌⊎◌, inl, inr, ℕ, ◌≤◌, true, false, List, [], Option, None, Some, Result, Ok, Err, IsOk, is_some, refl, ap, sym, subst, ◌∙◌, arith}
 use Rattle.std.specs.Option.{ForSome, option_map}
 use Rattle.tap_cast.specs.Casts.{level_of_cast}
 use Rattle.tap_name.specs.Name.{IsName}

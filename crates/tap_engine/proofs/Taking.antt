@@ -123,6 +123,12 @@ receiver_of engine ready place o =
       fits = none_is_strange engine.settings (system_of log) o.number o.frame there.state safe o.among there.is;
     }
 
+-- it is one of the nodes that are kept
+pub receiver_there : (engine : Engine) (ready : AreReady engine) (place : ℕ) (o : IsOutstanding engine.settings engine.ledger.records place)
+    → is_some (node_at engine.overlay o.frame.to) ≡ true
+receiver_there engine ready place o =
+    ap is_some ((ready.kept.go_on refl).nodes.nodes_are o.frame.to ∙ ap (option_map running) (receiver_of engine ready place o).at)
+
 -- ---- the frame at a place within those outstanding
 
 -- a number at each place within these
@@ -176,6 +182,14 @@ module _ (outcome : NodeValue → Outcome) (before after : OverlayValue) (name :
 pub answer_ok : (answer : Result Turn NodeFault) (turn : Turn) → answer_given answer ≡ Ok turn → answer ≡ Ok turn
 answer_ok (Ok other) turn is = let same : other ≡ turn = cc in ap (λ t. Ok t) same
 answer_ok (Err fault) turn is = let never : Err (NodeRefuses fault) ≡ Ok turn = is in cc
+
+-- who acts or wants memory, and refuses, wants memory
+pub want_alone : (given : Result Turn OverlayFault) (fault : OverlayFault) → (given ≡ Err (NodeRefuses OutOfMemory)) ⊎ IsOk given
+    → given ≡ Err fault → fault ≡ NodeRefuses OutOfMemory
+want_alone given fault answers refused = elim answers [
+  | inl short ↦ let both : Err fault ≡ Err (NodeRefuses OutOfMemory) = sym refused ∙ short in cc
+  | inr ok ↦ let never : false ≡ true = subst IsOk refused ok in absurd (cc)
+]
 
 memory_or_other : (answer : Result Turn NodeFault) → (answer ≡ Err OutOfMemory) ⊎ (answer ≢ Err OutOfMemory)
 memory_or_other (Ok turn) = inr (λ never. cc)

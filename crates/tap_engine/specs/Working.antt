@@ -7,6 +7,7 @@ use Rattle.tap_name.specs.Name.{IsName}
 use Rattle.tap_name.specs.Settings.{SettingsValue}
 use Rattle.tap_name.specs.Word.{IsWord}
 use Rattle.tap_scenario.specs.declared.step.Step.{Step}
+use Rattle.tap_wire.specs.declared.fault.WireFault.{WireFault}
 use Rattle.tap_wire.specs.declared.frame.Frame.{Frame}
 use Rattle.tap_log.specs.declared.record.Record.{Record}
 use Rattle.tap_log.specs.declared.record.Record.TheVariants.{Spent}
@@ -20,6 +21,7 @@ use Rattle.tap_rule.specs.Event.{Event, Start as Begun}
 use Rattle.tap_rule.specs.Event.Event.{Starts, Takes}
 use Rattle.tap_rule.specs.Act.{act}
 use Rattle.tap_rule.specs.Strange.{is_strange}
+use Rattle.tap_node.specs.declared.fault.NodeFault.TheVariants.{Wire}
 use Rattle.tap_node.specs.declared.status.NodeStatus.{NodeStatus}
 use Rattle.tap_node.specs.declared.status.NodeStatus.TheVariants as status
 use Rattle.tap_node.specs.Node.{has_room_left, node_status, running}
@@ -32,6 +34,7 @@ use Rattle.tap_runs.specs.Group.{start_at}
 use Rattle.tap_runs.specs.Starts.{next_cast}
 use Rattle.tap_ledger.specs.Added.{CanAdd, most_ledger_frames}
 use Rattle.tap_overlay.specs.declared.fault.OverlayFault.{OverlayFault}
+use Rattle.tap_overlay.specs.declared.fault.OverlayFault.TheVariants.{Node as NodeFaults}
 use Rattle.tap_overlay.specs.declared.start.Start.{Start}
 use Rattle.tap_overlay.specs.declared.start.Start.TheVariants.{Abandon, Publish, Withdraw, Find, Leave, Cast}
 use Rattle.tap_overlay.specs.Overlay.{ChangesOnly, OverlayValue, node_at}
@@ -149,6 +152,11 @@ pub record HasBegunAt (before after : Engine) (step : Step) (acted : Acted) : Ty
 pub record CopiesAt (step : Step) (copies : ℕ × Damage) : Type 0 where
   pub place : flight_place step ≡ Some copies.0
   pub copy : (log : List Record) → damaged log step ≡ option_map (λ bytes. copy_damaged bytes copies.1) (bytes_at log copies.0)
+
+-- a node has answered that the bytes are no frame, for this cause
+pub record IsWire (answer : OverlayFault) : Type 0 where
+  pub fault : WireFault
+  pub is : answer ≡ NodeFaults (Wire fault)
 
 -- ---- frames
 

@@ -1,9 +1,10 @@
-ghost use Rattle.std.specs.Prelude.{◌≡◌, true, false, None, Some, IfOk, IsErr, MatchOption};
+ghost use Rattle.std.specs.Prelude.{◌≡◌, true, false, is_some, None, Some, Err, IfOk, IsErr};
 ghost use Rattle.tap_wire.specs.Reading.{frame_of};
 ghost use Rattle.tap_history.specs.Refusals.{first_refusal};
-ghost use Rattle.tap_runs.specs.Damage.{damage_record, fault_in, garbled};
+ghost use Rattle.tap_runs.specs.Damage.{damage_record};
+ghost use Rattle.tap_overlay.specs.Overlay.{node_at};
 ghost use Rattle.tap_engine.specs.Kinds.{damages};
-ghost use Rattle.tap_engine.specs.Working.{CopiesAt};
+ghost use Rattle.tap_engine.specs.Working.{CopiesAt, IsWire};
 
 use crate::damage::{Damage, damaged};
 use crate::engine::Engine;
@@ -13,7 +14,7 @@ use tap_name::Name;
 use tap_node::NodeFault;
 use tap_overlay::OverlayFault;
 use tap_scenario::Step;
-use tap_wire::{WireFault, decode, decode_head};
+use tap_wire::{WireFault, decode_head};
 
 // The damaged copies.
 impl Engine {
@@ -49,52 +50,62 @@ impl Engine {
     }
 
     // Why the damaged copy that a step makes is no frame, as its receiver answers.
-    fn garbled(&mut self, step: &Step) -> Result<Option<Record>, NoMemory>
+    fn garbled(&mut self, step: &Step) -> Result<Record, NoMemory>
         requires ready { AreReady self.old }
         requires accepted { first_refusal self.old.ledger.records step.now ≡ None }
         requires kind { damages step.now ≡ true }
-        ensures garbled { IfOk result (λ item. item ≡ damage_record self.old.settings self.old.ledger.records step.now) }
+        ensures garbled { IfOk result (λ item. Some item ≡ damage_record self.old.settings self.old.ledger.records step.now) }
         ensures same { self.new ≡ self.old }
     {
-        let Some((place, damage)) = damage_of(step) else {
-            return Ok(None);
+        let (place, damage) = damage_of(step);
+        let Some(flight) = self.ledger.flight_at(place) else {
+            unreachable!()
         };
-        let Some(number) = self.ledger.number_at(place) else {
-            return Ok(None);
+        let number = flight.number;
+        let Ok(head) = decode_head(&self.settings, flight.bytes) else {
+            unreachable!()
         };
-        let Some(bytes) = self.ledger.bytes_at(place) else {
-            return Ok(None);
-        };
-        let Ok(head) = decode_head(&self.settings, bytes) else {
-            return Ok(None);
-        };
-        let copy = damaged(self.alloc, bytes, &damage)?;
-        let fault = self.offer(&head.to, copy.as_slice())?;
-        Ok(record_of_copy(number, fault))
+        let copy = damaged(self.alloc, flight.bytes, &damage)?;
+        let fault = self.offer(&head.to, copy.as_slice());
+        Ok(Record::Garbled { number, fault })
     }
 
-    // Offers bytes that are no frame to the node of a name. If it isn't there, the bytes are read here.
-    fn offer(&mut self, name: &Name, bytes: &[u8]) -> Result<Option<WireFault>, NoMemory>
+    // Offers bytes that are no frame to the node of a name, which is there: it says why they are none, which takes no memory.
+    fn offer(&mut self, name: &Name, bytes: &[u8]) -> WireFault
         requires ready { AreReady self.old }
+        requires there { is_some (node_at self.old.overlay name.now) ≡ true }
         requires unread { IsErr (frame_of self.old.settings bytes.now) }
-        ensures fault { IfOk result (λ fault. fault ≡ fault_in (frame_of self.old.settings bytes.now)) }
+        ensures fault { frame_of self.old.settings bytes.now ≡ Err result }
         ensures same { self.new ≡ self.old }
     {
         match self.overlay.take(name, bytes) {
-            Err(OverlayFault::Node(NodeFault::Wire(fault))) => Ok(Some(fault)),
-            Ok(_) | Err(_) => match decode(self.alloc, &self.settings, bytes) {
-                Err(WireFault::NoMemory) => Err(NoMemory),
-                Err(fault) => Ok(Some(fault)),
-                Ok(_) => Ok(None),
-            },
+            Ok(_) => unreachable!(),
+            Err(fault) => wire_fault(fault),
         }
     }
 }
 
-// The place of the frame that a step copies, and how it damages the copy; nothing of another step.
+// Why bytes are no frame, as the node has answered that has taken them.
+fn wire_fault(fault: OverlayFault) -> WireFault
+    requires { IsWire fault }
+    ensures { fault ≡ OverlayFault.Node (NodeFault.Wire result) }
+{
+    match fault {
+        OverlayFault::Node(fault) => match fault {
+            NodeFault::Wire(fault) => fault,
+            NodeFault::NotMine(_) | NodeFault::Strange | NodeFault::NoMemory | NodeFault::Ended => {
+                unreachable!()
+            }
+        },
+        OverlayFault::NoNode | OverlayFault::NoRoom => unreachable!(),
+    }
+}
+
+// The place of the frame that a step copies which offers a damaged one, and how it damages the copy.
 #[tactic(auto, unfolding(crate::specs::Kinds::damages))]
-fn damage_of(step: &Step) -> Option<(u32, Damage)>
-    ensures { MatchOption result (damages step.now ≡ false) (CopiesAt step.now) }
+fn damage_of(step: &Step) -> (u32, Damage)
+    requires { damages step.now ≡ true }
+    ensures { CopiesAt step.now result }
 {
     match step {
         Step::Garble { place, at, byte } => {
@@ -102,19 +113,9 @@ fn damage_of(step: &Step) -> Option<(u32, Damage)>
                 at: *at,
                 byte: *byte,
             };
-            Some((*place, damage))
+            (*place, damage)
         }
-        Step::Cut { place, bytes } => Some((*place, Damage::Cut { bytes: *bytes })),
-        _ => None,
+        Step::Cut { place, bytes } => (*place, Damage::Cut { bytes: *bytes }),
+        _ => unreachable!(),
     }
-}
-
-// The record of the copy of the frame with this number, which is no frame for this cause; none of one that is a frame.
-fn record_of_copy(number: u32, fault: Option<WireFault>) -> Option<Record>
-    ensures { result ≡ garbled (Some number) fault }
-{
-    Some(Record::Garbled {
-        number,
-        fault: fault?,
-    })
 }

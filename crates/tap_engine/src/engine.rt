@@ -1,7 +1,6 @@
 ghost use Rattle.std.specs.Prelude.{◌≡◌, ◌≤◌, ◌+◌, ◌-◌, ◌⊎◌, true, ◌&&◌, nat_le, nat_lt, [], ◌∷◌, ◌++◌, length, IfOk, IsOk, OnOk, OnErr, Err};
 ghost use Rattle.tap_log.specs.Counts.{sent_count};
 ghost use Rattle.tap_log.specs.Log.{last_of};
-ghost use Rattle.tap_log.specs.MoreRecords.{at_most_one};
 ghost use Rattle.tap_log.specs.Reduced.{is_added};
 ghost use Rattle.tap_history.specs.Refusals.{first_refusal};
 ghost use Rattle.tap_ledger.specs.Woven.{remark_after};
@@ -9,8 +8,7 @@ ghost use Rattle.tap_engine.specs.Kinds.{tells_roots};
 ghost use Rattle.tap_engine.specs.KeptEngine.{room_kept};
 ghost use Rattle.tap_engine.specs.Working.{IsActed};
 
-use crate::pushes::push_some;
-use crate::stop::{NoMemory, Stop};
+use crate::stop::{NoMemory, Stop, only_memory};
 use std::alloc::Global;
 use tap_ledger::Ledger;
 use tap_log::{Record, Refusal};
@@ -75,7 +73,7 @@ impl Engine {
     }
 
     /// A step that only chooses is added alone, with room for its refusal, the roots that it asks for, and the last record. `NoMemory` adds
-    /// nothing.
+    /// nothing, and doesn't come if there is room for all of these.
     ///
     /// Rule: docs/FORMATS.md, "The course of a run".
     pub fn mark(&mut self, index: u32, step: &Step) -> Result<(), NoMemory>
@@ -84,6 +82,7 @@ impl Engine {
         ensures added { self.new.ledger.added ≡ self.old.ledger.added }
         ensures ok { OnOk result (self.new.ledger.records ≡ self.old.ledger.records ++ Record.Step index step.now ∷ []) }
         ensures room { OnOk result (3 ≤ self.new.ledger.spare) }
+        ensures at_hand { 4 ≤ self.old.ledger.spare → IsOk result }
         ensures err { OnErr result (self.new.ledger.records ≡ self.old.ledger.records) }
     {
         self.ledger.reserve(4)?;
@@ -176,15 +175,15 @@ impl Engine {
         Err(Stop::Spent)
     }
 
-    // Adds a step, with the record that follows it if one does, with the room that is kept after these. A refused call changes nothing.
+    // Adds a step and the record that follows it, with the room that is kept after these. A refused call changes nothing.
     pub(crate) fn add_step_with(
         &mut self,
         index: u32,
         step: &Step,
-        item: Option<Record>,
+        item: Record,
     ) -> Result<(), NoMemory>
-        requires { CanAdd self.old.ledger.records (Record.Step index step.now ∷ at_most_one item) }
-        ensures ok { OnOk result (self.new.ledger.records ≡ self.old.ledger.records ++ Record.Step index step.now ∷ at_most_one item) }
+        requires { CanAdd self.old.ledger.records (Record.Step index step.now ∷ item ∷ []) }
+        ensures ok { OnOk result (self.new.ledger.records ≡ self.old.ledger.records ++ Record.Step index step.now ∷ item ∷ []) }
         ensures room { OnOk result (3 ≤ self.new.ledger.spare) }
         ensures same { self.new ≡ record self.old { ledger = self.new.ledger } }
         ensures added { self.new.ledger.added ≡ self.old.ledger.added }
@@ -192,7 +191,7 @@ impl Engine {
     {
         self.ledger.reserve(ROOM_FOR_STEP)?;
         self.add_step(index, step);
-        push_some(&mut self.ledger, item);
+        self.ledger.push_reserved(item);
         Ok(())
     }
 }
@@ -204,7 +203,7 @@ pub(crate) fn acted_by(name: Name, answer: Result<Turn, OverlayFault>) -> Result
 {
     match answer {
         Ok(turn) => Ok(Acted { name, turn }),
-        Err(_) => Err(NoMemory),
+        Err(fault) => Err(only_memory(fault)),
     }
 }
 

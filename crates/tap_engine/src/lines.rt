@@ -1,5 +1,6 @@
-ghost use Rattle.std.specs.Prelude.{◌≡◌, false};
+ghost use Rattle.std.specs.Prelude.{◌≡◌, true, false, Some};
 ghost use Rattle.tap_table.specs.Row.{row_of};
+ghost use Rattle.tap_node.specs.Node.{is_linked};
 ghost use Rattle.tap_runs.specs.Observed.{link_line, pair_line, word_of_link, word_of_status};
 
 use tap_link::Kind;
@@ -7,16 +8,17 @@ use tap_log::{LinkLine, LinkWord, NodeWord, Pair};
 use tap_node::{Node, NodeStatus};
 use tap_table::Row;
 
-// The word of what a node is, none if it has no table any more. It hasn't ended for want of memory.
-pub(crate) fn word_of_node(node: &Node) -> Option<NodeWord>
-    requires { node.now.ended ≡ false }
-    ensures { result ≡ word_of_status node.now.state.status }
+// The word of what a node is, which is joining, core or leaving, and hasn't ended for want of memory.
+pub(crate) fn word_of_node(node: &Node) -> NodeWord
+    requires runs { node.now.ended ≡ false }
+    requires linked { is_linked node.now.state.status ≡ true }
+    ensures { Some result ≡ word_of_status node.now.state.status }
 {
     match node.status() {
-        NodeStatus::Joining => Some(NodeWord::Joining),
-        NodeStatus::Core => Some(NodeWord::Core),
-        NodeStatus::Leaving => Some(NodeWord::Leaving),
-        NodeStatus::Gone | NodeStatus::Ceased | NodeStatus::Ended => None,
+        NodeStatus::Joining => NodeWord::Joining,
+        NodeStatus::Core => NodeWord::Core,
+        NodeStatus::Leaving => NodeWord::Leaving,
+        NodeStatus::Gone | NodeStatus::Ceased | NodeStatus::Ended => unreachable!(),
     }
 }
 

@@ -13,25 +13,23 @@ use tap_pointer::Pointers;
 use tap_table::Table;
 
 /// What a log says of the node of a name as its table is asked for: what it is, and its links, ascending by slot, then target.
-/// None if it is gone or has ceased, and has no table any more. `NoMemory` if memory was refused.
+/// `NoMemory` if memory was refused.
 ///
-/// The node hasn't ended for want of memory.
+/// The node is joining, core or leaving, and hasn't ended for want of memory.
 ///
 /// Rule: docs/FORMATS.md, "The course of a run".
-pub fn table_record(alloc: Global, name: Name, node: &Node) -> Result<Option<Record>, NoMemory>
-    requires { node.now.ended ≡ false }
-    ensures { IfOk result (λ item. item ≡ table_record name node.now.state) }
+pub fn table_record(alloc: Global, name: Name, node: &Node) -> Result<Record, NoMemory>
+    requires runs { node.now.ended ≡ false }
+    requires linked { is_linked node.now.state.status ≡ true }
+    ensures { IfOk result (λ item. Some item ≡ table_record name node.now.state) }
 {
-    let Some(status) = word_of_node(node) else {
-        return Ok(None);
-    };
     match node.table() {
-        Some(table) => Ok(Some(Record::TableOf {
+        Some(table) => Ok(Record::TableOf {
             name,
-            status,
+            status: word_of_node(node),
             links: lines_of(alloc, table)?,
-        })),
-        None => Ok(None),
+        }),
+        None => unreachable!(),
     }
 }
 
@@ -47,22 +45,22 @@ fn lines_of(alloc: Global, table: &Table) -> Result<List<LinkLine>, NoMemory>
 }
 
 /// What a log says of the node of a name as its pointers are asked for: the pairs that it holds, ascending by object, then server.
-/// `NoMemory` if memory was refused; it is never none.
+/// `NoMemory` if memory was refused.
 ///
 /// The node is joining, core or leaving, and hasn't ended for want of memory.
 ///
 /// Rule: docs/FORMATS.md, "The course of a run".
-pub fn pointers_record(alloc: Global, name: Name, node: &Node) -> Result<Option<Record>, NoMemory>
+pub fn pointers_record(alloc: Global, name: Name, node: &Node) -> Result<Record, NoMemory>
     requires runs { node.now.ended ≡ false }
     requires linked { is_linked node.now.state.status ≡ true }
-    ensures { IfOk result (λ item. item ≡ Some (pointers_record name node.now.state)) }
+    ensures { IfOk result (λ item. item ≡ pointers_record name node.now.state) }
 {
     match node.pointers() {
-        Some(pointers) => Ok(Some(Record::PointersOf {
+        Some(pointers) => Ok(Record::PointersOf {
             name,
             pairs: pairs_of(alloc, pointers)?,
-        })),
-        None => Ok(None),
+        }),
+        None => unreachable!(),
     }
 }
 

@@ -1,4 +1,4 @@
-ghost use Rattle.std.specs.Prelude.{◌≡◌, true, false, None, IfOk};
+ghost use Rattle.std.specs.Prelude.{◌≡◌, ◌≢◌, true, false, [], is_some, None, Some, IfOk};
 ghost use Rattle.std.specs.Option.{option_map};
 ghost use Rattle.tap_name.specs.Name.{IsName};
 ghost use Rattle.tap_name.specs.Root.{AreNames, root};
@@ -8,6 +8,7 @@ ghost use Rattle.tap_history.specs.Core.{core_of};
 ghost use Rattle.tap_history.specs.Refusals.{first_refusal};
 ghost use Rattle.tap_runs.specs.Course.{system_of};
 ghost use Rattle.tap_runs.specs.Observed.{observed};
+ghost use Rattle.tap_overlay.specs.Overlay.{node_at};
 ghost use Rattle.tap_engine.specs.Kinds.{observes};
 
 use crate::engine::Engine;
@@ -15,6 +16,7 @@ use crate::observed::{pointers_record, table_record};
 use crate::stop::{NoMemory, Stop};
 use tap_log::Record;
 use tap_name::{List, Name};
+use tap_node::Node;
 use tap_scenario::Step;
 use tap_surrogate::{root_of, walk_path};
 
@@ -52,45 +54,53 @@ impl Engine {
     }
 
     // What a step sees that observes, and isn't refused.
-    #[tactic(auto, unfolding(tap_runs::specs::Observed::observed))]
-    fn observed(&self, step: &Step) -> Result<Option<Record>, NoMemory>
+    #[tactic(auto, unfolding(tap_runs::specs::Observed::observed, crate::specs::Kinds::observes))]
+    fn observed(&self, step: &Step) -> Result<Record, NoMemory>
         requires ready { AreReady self.now }
         requires accepted { first_refusal self.now.ledger.records step.now ≡ None }
+        requires kind { observes step.now ≡ true }
         requires names { IsStep self.now.settings false step.now }
-        ensures { IfOk result (λ item. item ≡ observed self.now.settings self.now.ledger.records (system_of self.now.ledger.records) step.now) }
+        ensures { IfOk result (λ item. Some item
+            ≡ observed self.now.settings self.now.ledger.records (system_of self.now.ledger.records) step.now) }
     {
         match step {
-            Step::Walk { object, asker } => Ok(Some(Record::Walked {
+            Step::Walk { object, asker } => Ok(Record::Walked {
                 object: *object,
                 path: walk_path(self.alloc, &self.overlay, *asker, *object)?,
-            })),
+            }),
             Step::Root { object } => self.root(object),
-            Step::Table { name } => match self.overlay.node(name) {
-                Some(node) => Ok(table_record(self.alloc, *name, node)?),
-                None => Ok(None),
-            },
-            Step::Pointers { name } => match self.overlay.node(name) {
-                Some(node) => Ok(pointers_record(self.alloc, *name, node)?),
-                None => Ok(None),
-            },
-            _ => Ok(None),
+            Step::Table { name } => Ok(table_record(self.alloc, *name, self.asked(name))?),
+            Step::Pointers { name } => Ok(pointers_record(self.alloc, *name, self.asked(name))?),
+            _ => unreachable!(),
         }
     }
 
-    // The root of an object over the core nodes, if there are any.
-    fn root(&self, object: &Name) -> Result<Option<Record>, NoMemory>
+    // The node of a name that is asked, which is there.
+    fn asked(&self, name: &Name) -> &Node
+        requires { is_some (node_at self.now.overlay name.now) ≡ true }
+        ensures { node_at self.now.overlay name.now ≡ Some result.now }
+    {
+        match self.overlay.node(name) {
+            Some(node) => node,
+            None => unreachable!(),
+        }
+    }
+
+    // The root of an object over the core nodes, of which there is one.
+    fn root(&self, object: &Name) -> Result<Record, NoMemory>
         requires core { AreNames self.now.settings (core_of self.now.ledger.records) }
+        requires some { core_of self.now.ledger.records ≢ [] }
         requires object { IsName self.now.settings object.now }
-        ensures { IfOk result (λ item. item
+        ensures { IfOk result (λ item. Some item
             ≡ option_map (RootOf object.now) (root self.now.settings.base (core_of self.now.ledger.records) object.now)) }
     {
         let core = List::from_vec(Vec::from_slice(self.alloc, self.ledger.core())?);
         match root_of(&core, &self.settings, object) {
-            Some(root) => Ok(Some(Record::RootOf {
+            Some(root) => Ok(Record::RootOf {
                 object: *object,
                 root,
-            })),
-            None => Ok(None),
+            }),
+            None => unreachable!(),
         }
     }
 }

@@ -1,10 +1,10 @@
-ghost use Rattle.std.specs.Prelude.{◌≡◌, ◌≤◌, ◌∷◌, ◌++◌, [], true, false, None, Some, IfOk, IfSome};
+ghost use Rattle.std.specs.Prelude.{◌≡◌, ◌≤◌, ◌∷◌, ◌++◌, [], true, false, is_some, None, Some, IfOk, IsOk};
 ghost use Rattle.std.specs.Option.{ForSome};
 ghost use Rattle.tap_scenario.specs.Step.{IsStep};
 ghost use Rattle.tap_log.specs.Counts.{sent_count};
 ghost use Rattle.tap_log.specs.MoreRecords.{at_most_one};
 ghost use Rattle.tap_history.specs.Refusals.{first_refusal};
-ghost use Rattle.tap_history.specs.StepAsks.{is_start};
+ghost use Rattle.tap_history.specs.StepAsks.{is_start, join_name};
 ghost use Rattle.tap_node.specs.Node.{node_status};
 ghost use Rattle.tap_overlay.specs.Overlay.{node_at};
 ghost use Rattle.tap_overlay.specs.Start.{rule_start};
@@ -160,50 +160,50 @@ impl Engine {
             let turn = self.overlay.join(*name, *via)?;
             return Ok(Acted { name: *name, turn });
         }
-        match self.begun_by(step) {
-            Some(one) => self.begin_at(&one),
-            None => Err(NoMemory),
-        }
+        let Begun { name, start } = self.begun_by(step);
+        self.begin_at(name, &start)
     }
 
-    // What a step has a node start that is there; nothing of a join, and of a step that is no start.
-    #[tactic(auto, unfolding(tap_runs::specs::Starts::start_of_step, tap_history::specs::StepAsks::actor_of))]
-    fn begun_by<'a>(&self, step: &'a Step) -> Option<Begun<'a>>
+    // What a step has a node start that is there: a start that is no join.
+    #[tactic(auto, unfolding(tap_runs::specs::Starts::start_of_step, tap_history::specs::StepAsks::actor_of, tap_history::specs::StepAsks::join_name))]
+    fn begun_by<'a>(&self, step: &'a Step) -> Begun<'a>
         requires ready { AreReady self.now }
+        requires kind { is_start step.now ≡ true }
+        requires no_join { join_name step.now ≡ None }
         requires names { IsStep self.now.settings false step.now }
-        ensures start { IfSome result (λ b. start_at self.now.ledger.records step.now ≡ Some (b.name, rule_start b.start)) }
-        ensures named { IfSome result (λ b. IsNextStart self.now.settings self.now.ledger.records b.start) }
+        ensures start { start_at self.now.ledger.records step.now ≡ Some (result.name, rule_start result.start) }
+        ensures named { IsNextStart self.now.settings self.now.ledger.records result.start }
     {
         match step {
-            Step::Depart { name } => Some(Begun {
+            Step::Depart { name } => Begun {
                 name: *name,
                 start: Start::Leave,
-            }),
-            Step::Publish { object, server } => Some(Begun {
+            },
+            Step::Publish { object, server } => Begun {
                 name: *server,
                 start: Start::Publish { object: *object },
-            }),
-            Step::Withdraw { object, server } => Some(Begun {
+            },
+            Step::Withdraw { object, server } => Begun {
                 name: *server,
                 start: Start::Withdraw { object: *object },
-            }),
-            Step::Find { object, asker } => Some(Begun {
+            },
+            Step::Find { object, asker } => Begun {
                 name: *asker,
                 start: Start::Find {
                     ticket: self.next_ticket(),
                     object: *object,
                 },
-            }),
-            Step::Abandon { name } => Some(Begun {
+            },
+            Step::Abandon { name } => Begun {
                 name: *name,
                 start: Start::Abandon,
-            }),
+            },
             Step::Cast {
                 word,
                 prefix,
                 asker,
-            } => Some(self.cast_by(word, prefix, asker)),
-            _ => None,
+            } => self.cast_by(word, prefix, asker),
+            _ => unreachable!(),
         }
     }
 
@@ -225,26 +225,28 @@ impl Engine {
         }
     }
 
-    // The node of a name, which is there, starts something. A node of another status than that wants does nothing.
-    fn begin_at(&mut self, one: &Begun<'_>) -> Result<Acted, NoMemory>
-        requires { CanBegin self.old.overlay one.now.name one.now.start }
-        ensures begun { IfOk result (HasBegunOf self.old.overlay self.new.overlay one.now.name (rule_start one.now.start)) }
+    // The node of a name, which is there, starts something. A node of another status than that wants does nothing, and wants no memory.
+    fn begin_at(&mut self, name: Name, start: &Start<'_>) -> Result<Acted, NoMemory>
+        requires { CanBegin self.old.overlay name start.now }
+        ensures begun { IfOk result (HasBegunOf self.old.overlay self.new.overlay name (rule_start start.now)) }
         ensures same { self.new ≡ record self.old { overlay = self.new.overlay } }
         ensures still { StillHas self.old.overlay self.new.overlay }
+        ensures unsuited { ForSome (node_at self.old.overlay name) (λ node. suits (node_status node) start.now ≡ false → IsOk result) }
     {
-        if self.is_suited(one) {
-            return acted_by(one.name, self.overlay.start(&one.name, &one.start));
+        if self.is_suited(&name, start) {
+            return acted_by(name, self.overlay.start(&name, start));
         }
-        Ok(self.nothing_by(one.name))
+        Ok(self.nothing_by(name))
     }
 
-    // Whether the node of a name has the status that a start wants.
-    fn is_suited(&self, one: &Begun<'_>) -> bool
-        ensures { ForSome (node_at self.now.overlay one.now.name) (λ node. result ≡ suits (node_status node) one.now.start) }
+    // Whether the node of a name, which is there, has the status that a start wants.
+    fn is_suited(&self, name: &Name, start: &Start<'_>) -> bool
+        requires { is_some (node_at self.now.overlay name.now) ≡ true }
+        ensures { ForSome (node_at self.now.overlay name.now) (λ node. result ≡ suits (node_status node) start.now) }
     {
-        match self.overlay.node(&one.name) {
-            Some(node) => suits(node.status(), &one.start),
-            None => false,
+        match self.overlay.node(name) {
+            Some(node) => suits(node.status(), start),
+            None => unreachable!(),
         }
     }
 

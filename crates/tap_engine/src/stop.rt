@@ -5,6 +5,8 @@ use std::alloc::{AllocError, AllocFailed};
 use std::error::Error;
 use std::fmt;
 use tap_log::Refusal;
+use tap_node::NodeFault;
+use tap_overlay::OverlayFault;
 
 /// Why a call added no group to the log of a world.
 ///
@@ -103,5 +105,20 @@ impl From<tap_log::NoMemory> for Stop {
 
     fn from(_: tap_log::NoMemory) -> Stop {
         Stop::NoMemory
+    }
+}
+
+// The fault of nodes that have no other: memory was refused to one.
+pub(crate) fn only_memory(fault: OverlayFault) -> NoMemory
+    requires { fault ≡ OverlayFault.Node NodeFault.NoMemory }
+{
+    match fault {
+        OverlayFault::Node(fault) => match fault {
+            NodeFault::NoMemory => NoMemory,
+            NodeFault::Wire(_) | NodeFault::NotMine(_) | NodeFault::Strange | NodeFault::Ended => {
+                unreachable!()
+            }
+        },
+        OverlayFault::NoNode | OverlayFault::NoRoom => unreachable!(),
     }
 }

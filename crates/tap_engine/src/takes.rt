@@ -5,7 +5,7 @@ ghost use Rattle.tap_engine.specs.SeenTurns.{turn_records};
 
 use crate::engine::Engine;
 use crate::pushes::push_turn;
-use crate::stop::Stop;
+use crate::stop::{Stop, only_memory};
 use tap_log::{Record, Refusal};
 use tap_name::Name;
 use tap_node::News;
@@ -48,7 +48,7 @@ impl Engine {
         let name = head.to;
         match self.overlay.take(&name, flight.bytes) {
             Ok(turn) => self.add_taken(number, &name, turn.sent, &turn.news),
-            Err(_) => Err(Stop::NoMemory),
+            Err(fault) => Err(Stop::from(only_memory(fault))),
         }
     }
 

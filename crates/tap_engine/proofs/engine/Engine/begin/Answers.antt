@@ -1,9 +1,21 @@
-use Rattle.std.proofs.Common.{◌≡◌, None, sym, subst}
+use Rattle.std.proofs.Common.{◌≡◌, ◌≢◌, ℕ, List, None, refl, sym, subst}
+use Rattle.tap_scenario.specs.declared.step.Step.{Step}
+use Rattle.tap_scenario.specs.declared.step.Step.TheVariants.{Join}
 use Rattle.tap_history.specs.Refusals.{first_refusal}
+use Rattle.tap_history.specs.StepAsks.{join_name}
 use Rattle.tap_overlay.specs.Step.{HasJoined}
 use Rattle.tap_engine.specs.Working.{HasBegunAt}
 use Rattle.tap_engine.proofs.Starting.{can_begin, has_joined_at, is_fresh}
 use Rattle.tap_engine.proofs.engine.Engine.begin.Goals as goal
+
+-- a step that is no join has no node join
+joins_nobody : (step : Step) → ((name via : List ℕ) → step ≢ Join name via) → join_name step ≡ None
+unfolding join_name
+joins_nobody (Join name via) other = absurd (other name via refl)
+joins_nobody step other = refl
+
+pub begun_by-name-requires-clause-no_join : goal.begun_by-name-requires-clause-no_join
+begun_by-name-requires-clause-no_join c = joins_nobody c.args.step.now c.in_default.not-Join
 
 pub join-requires-clause-fresh : goal.join-requires-clause-fresh
 join-requires-clause-fresh c =
@@ -22,5 +34,5 @@ returns-in-Join-clause-begun c =
 
 pub begin_at-requires : goal.begin_at-requires
 begin_at-requires c =
-    can_begin c.args.self.now c.requires.ready c.args.step.now c.requires.accepted c.in-Some.one.name c.in-Some.one.start
-    c.in-Some.ensures.start c.in-Some.ensures.named
+    can_begin c.args.self.now c.requires.ready c.args.step.now c.requires.accepted c.begun_by-name.result.name c.begun_by-name.result.start
+    c.begun_by-name.ensures.start c.begun_by-name.ensures.named

@@ -1,7 +1,6 @@
-use Rattle.std.proofs.Common.{refl, ◌≡◌, inr, None, [], ◌∷◌, ◌++◌, ap, sym, ◌∙◌, arith}
+use Rattle.std.proofs.Common.{refl, ◌≡◌, inr, None, Some, [], ◌∷◌, ◌++◌, ap, sym, ◌∙◌, arith}
 use Rattle.std.proofs.lemmas.Result.{err_from_is_err_and}
 use Rattle.tap_log.specs.declared.record.Record.TheVariants.{Step as StepRecord}
-use Rattle.tap_log.specs.MoreRecords.{at_most_one}
 use Rattle.tap_history.specs.Refusals.{first_refusal}
 use Rattle.tap_engine.specs.declared.engine.Engine.{Engine}
 use Rattle.tap_engine.proofs.Leading.{reserved_ready}
@@ -52,9 +51,9 @@ add_step_with-requires c =
     let m = c.args.self.now in
     let n = c.refusal_of.new.self in
     let step = c.args.step.now in
-    quiet_fits m c.requires.ready c.args.index step c.garbled.new.self (StepRecord c.args.index step ∷ at_most_one c.in_ok-item.item) (ap (λ (q : Engine). q.ledger.records) c.garbled.ensures.same ∙ c.refusal_of.ensures.log)
+    quiet_fits m c.requires.ready c.args.index step c.garbled.new.self (StepRecord c.args.index step ∷ c.in_ok-item.item ∷ []) (ap (λ (q : Engine). q.ledger.records) c.garbled.ensures.same ∙ c.refusal_of.ensures.log)
     (inr c.requires.kind)
-    (copied_group m n c.args.index step c.in_ok-item.item (StepRecord c.args.index step ∷ at_most_one c.in_ok-item.item) c.refusal_of.ensures.same c.refusal_of.ensures.log
+    (copied_group m n c.args.index step (Some c.in_ok-item.item) (StepRecord c.args.index step ∷ c.in_ok-item.item ∷ []) c.refusal_of.ensures.same c.refusal_of.ensures.log
     c.requires.kind (sym c.in_ok-refusal.ensures.refusal ∙ c.in_default.is) c.in_ok-item.ensures.garbled
     refl)
 
@@ -77,8 +76,8 @@ returns-clause-leads c =
     quiet_whole m c.requires.ready c.args.index step c.requires.next (inr c.requires.kind)
     (damaging_names m.settings c.args.step.now c.requires.kind) after
     (log_alone m c.garbled.new.self after ((same_alone c.args.self.now c.refusal_of.new.self c.garbled.new.self c.garbled.ensures.same c.refusal_of.ensures.same)) c.in_ok-add_step_with.ensures.same) c.in_ok-add_step_with.ensures.room
-    (StepRecord c.args.index step ∷ at_most_one c.in_ok-item.item) accepted
-    (copied_group m n c.args.index step c.in_ok-item.item (StepRecord c.args.index step ∷ at_most_one c.in_ok-item.item) c.refusal_of.ensures.same c.refusal_of.ensures.log
+    (StepRecord c.args.index step ∷ c.in_ok-item.item ∷ []) accepted
+    (copied_group m n c.args.index step (Some c.in_ok-item.item) (StepRecord c.args.index step ∷ c.in_ok-item.item ∷ []) c.refusal_of.ensures.same c.refusal_of.ensures.log
     c.requires.kind accepted c.in_ok-item.ensures.garbled
     refl)
-    (c.in_ok-add_step_with.ensures.ok ∙ ap (λ l. l ++ (StepRecord c.args.index step ∷ at_most_one c.in_ok-item.item)) ((ap (λ (q : Engine). q.ledger.records) c.garbled.ensures.same ∙ c.refusal_of.ensures.log)))
+    (c.in_ok-add_step_with.ensures.ok ∙ ap (λ l. l ++ (StepRecord c.args.index step ∷ c.in_ok-item.item ∷ [])) ((ap (λ (q : Engine). q.ledger.records) c.garbled.ensures.same ∙ c.refusal_of.ensures.log)))

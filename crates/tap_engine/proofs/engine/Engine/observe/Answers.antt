@@ -1,8 +1,7 @@
-use Rattle.std.proofs.Common.{refl, ◌≡◌, inl, false, None, [], ◌∷◌, ◌++◌, ap, sym, subst, ◌∙◌, arith}
+use Rattle.std.proofs.Common.{refl, ◌≡◌, inl, false, None, Some, [], ◌∷◌, ◌++◌, ap, sym, subst, ◌∙◌, arith}
 use Rattle.std.proofs.lemmas.Result.{err_from_is_err_and}
 use Rattle.tap_scenario.specs.Step.{IsStep}
 use Rattle.tap_log.specs.declared.record.Record.TheVariants.{Step as StepRecord}
-use Rattle.tap_log.specs.MoreRecords.{at_most_one}
 use Rattle.tap_history.specs.Refusals.{first_refusal}
 use Rattle.tap_engine.specs.declared.engine.Engine.{Engine}
 use Rattle.tap_engine.proofs.Leading.{reserved_ready}
@@ -57,9 +56,9 @@ add_step_with-requires c =
     let m = c.args.self.now in
     let n = c.refusal_of.new.self in
     let step = c.args.step.now in
-    quiet_fits m c.requires.ready c.args.index step c.refusal_of.new.self (StepRecord c.args.index step ∷ at_most_one c.in_ok-item.item) c.refusal_of.ensures.log
+    quiet_fits m c.requires.ready c.args.index step c.refusal_of.new.self (StepRecord c.args.index step ∷ c.in_ok-item.item ∷ []) c.refusal_of.ensures.log
     (inl c.requires.kind)
-    (seen_group m n c.args.index step c.in_ok-item.item (StepRecord c.args.index step ∷ at_most_one c.in_ok-item.item) c.refusal_of.ensures.same c.refusal_of.ensures.log
+    (seen_group m n c.args.index step (Some c.in_ok-item.item) (StepRecord c.args.index step ∷ c.in_ok-item.item ∷ []) c.refusal_of.ensures.same c.refusal_of.ensures.log
     c.requires.kind (sym c.in_ok-refusal.ensures.refusal ∙ c.in_default.is) c.in_ok-item.ensures
     refl)
 
@@ -82,8 +81,8 @@ returns-clause-leads c =
     quiet_whole m c.requires.ready c.args.index step c.requires.next (inl c.requires.kind)
     (step_has_names m.settings c.args.step.now c.requires.names) after
     (log_alone m c.refusal_of.new.self after (c.refusal_of.ensures.same) c.in_ok-add_step_with.ensures.same) c.in_ok-add_step_with.ensures.room
-    (StepRecord c.args.index step ∷ at_most_one c.in_ok-item.item) accepted
-    (seen_group m n c.args.index step c.in_ok-item.item (StepRecord c.args.index step ∷ at_most_one c.in_ok-item.item) c.refusal_of.ensures.same c.refusal_of.ensures.log
+    (StepRecord c.args.index step ∷ c.in_ok-item.item ∷ []) accepted
+    (seen_group m n c.args.index step (Some c.in_ok-item.item) (StepRecord c.args.index step ∷ c.in_ok-item.item ∷ []) c.refusal_of.ensures.same c.refusal_of.ensures.log
     c.requires.kind accepted c.in_ok-item.ensures
     refl)
-    (c.in_ok-add_step_with.ensures.ok ∙ ap (λ l. l ++ (StepRecord c.args.index step ∷ at_most_one c.in_ok-item.item)) (c.refusal_of.ensures.log))
+    (c.in_ok-add_step_with.ensures.ok ∙ ap (λ l. l ++ (StepRecord c.args.index step ∷ c.in_ok-item.item ∷ [])) (c.refusal_of.ensures.log))

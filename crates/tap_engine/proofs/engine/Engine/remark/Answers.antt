@@ -1,4 +1,4 @@
-use Rattle.std.proofs.Common.{◌≡◌, ◌≤◌, arith}
+use Rattle.std.proofs.Common.{arith}
 use Rattle.tap_log.specs.Log.{last_of}
 use Rattle.tap_engine.specs.Kinds.{tells_roots}
 use Rattle.tap_engine.proofs.Roots.{has_three, lacks_three, leaves_room}
