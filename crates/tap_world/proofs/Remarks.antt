@@ -1,5 +1,5 @@
 -- What a world keeps when a remark is added, and the room for roots.
-use Rattle.std.proofs.Common.{◌≡◌, ℕ, ◌+◌, ◌≤◌, Bool, true, false, not, nat_eq, List, [], ◌∷◌, ◌++◌, length, append-nil, Option, None, Some, Result, Ok, Err, refl, ap, sym, ◌∙◌, arith}
+use Rattle.std.proofs.Common.{◌≡◌, ℕ, ◌+◌, ◌≤◌, Bool, true, false, not, nat_eq, List, [], ◌∷◌, ◌++◌, length, append-nil, Option, None, Some, Ok, Err, refl, ap, sym, ◌∙◌, arith}
 use Rattle.std.specs.Prelude.{◌&&◌, ◌||◌, if◌then◌else◌}
 use Rattle.std.specs.List.{list_any}
 use Rattle.std.specs.Option.{option_map_or}
@@ -15,11 +15,10 @@ use Rattle.tap_ledger.specs.Woven.{Remark, remark_after}
 use Rattle.tap_runs.specs.Beginning.{Beginning, begin_record}
 use Rattle.tap_runs.specs.Course.{system_of}
 use Rattle.tap_engine.specs.KeptEngine.{AreKept, AreReady, room_kept, room_of_record, room_of_roots, world_value}
-use Rattle.tap_engine.specs.Kinds.{awaits_roots, begins_roots, is_finished}
+use Rattle.tap_engine.specs.Kinds.{awaits_roots, begins_roots}
 use Rattle.tap_engine.specs.Outcome.{Remarks, remark_answer}
 use Rattle.tap_engine.specs.World.{WorldValue}
 use Rattle.tap_engine.specs.declared.engine.Engine.{Engine}
-use Rattle.tap_engine.specs.declared.stop.Stop.{Stop}
 use Rattle.tap_engine.specs.declared.stop.Stop.TheVariants.{Ended, NoMemory}
 use Rattle.tap_engine.proofs.Keeping.{HasGrown, as_log, begun, kept_same, same_beginning, seen}
 use Rattle.tap_engine.proofs.NamedSteps.{nothing_named}

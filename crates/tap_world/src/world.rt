@@ -1,4 +1,4 @@
-ghost use Rattle.std.specs.Prelude.{◌≡◌, ◌≢◌, ◌≤◌, ◌+◌, ◌↔◌, [], true, false, nat_eq, length, position, option_copied, IfOk, IfSome, IsNone, Err};
+ghost use Rattle.std.specs.Prelude.{◌≡◌, ◌≢◌, ◌≤◌, ◌↔◌, [], true, false, nat_eq, length, position, option_copied, IfOk, IfSome, IsNone, Err};
 ghost use Rattle.tap_name.specs.Names.{has_name};
 ghost use Rattle.tap_log.specs.Counts.{ticket_count};
 ghost use Rattle.tap_log.specs.Log.{begun_steps};
@@ -222,10 +222,10 @@ impl World {
         if self.stopped {
             return Err(Stop::Ended);
         }
-        let Ok(()) = self.engine.mark(index, step) else {
+        if let Err(refused) = self.engine.mark(index, step) {
             self.stopped = true;
-            return Err(Stop::NoMemory);
-        };
+            return Err(Stop::from(refused));
+        }
         Ok(())
     }
 
@@ -290,10 +290,10 @@ impl World {
         if self.stopped {
             return Err(Stop::Ended);
         }
-        let Ok(()) = self.engine.remark(item) else {
+        if let Err(refused) = self.engine.remark(item) {
             self.stopped = true;
-            return Err(Stop::NoMemory);
-        };
+            return Err(Stop::from(refused));
+        }
         Ok(())
     }
 

@@ -1,7 +1,4 @@
-use Rattle.std.proofs.Common.{◌≡◌, ◌∙◌, true, ap, sym}
-use Rattle.std.specs.Prelude.{option_and_then}
-use Rattle.tap_log.specs.Log.{last_of}
-use Rattle.tap_engine.specs.Kinds.{begun_index}
+use Rattle.std.proofs.Common.{◌≡◌, true, sym}
 use Rattle.tap_world.proofs.Lasts.{may_note}
 use Rattle.tap_world.proofs.tests.note.Goals as goal
 

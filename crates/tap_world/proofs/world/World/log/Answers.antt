@@ -1,4 +1,4 @@
-use Rattle.std.proofs.Common.{◌≡◌, ◌∙◌, [], List, ap, subst, ◌+◌, ◌≤◌}
+use Rattle.std.proofs.Common.{◌≡◌, ◌∙◌, [], ap, subst, ◌≤◌}
 use Rattle.tap_log.specs.Counts.{ticket_count}
 use Rattle.tap_ledger.specs.Woven.{woven}
 use Rattle.tap_ledger.proofs.Woven.{woven_nothing}

@@ -17,19 +17,19 @@ mark-requires c =
     step_fits w.engine.ledger.records c.args.index c.args.step.now
     (few_sent_most w.engine (ready_of w.engine w.refused w.stopped c.self.invariant may c.if-self.false))
 
-pub invariant_of-self-in_default : goal.invariant_of-self-in_default
-invariant_of-self-in_default c =
+pub invariant_of-self : goal.invariant_of-self
+invariant_of-self c =
     let w = c.self.inside in
     let may = rw (← c.self.view_is) at c.requires.goes_on in
     let ready = ready_of w.engine w.refused w.stopped c.self.invariant may c.if-self.false in
     let after = c.mark.new.self in
     let same = c.mark.ensures.same in
     subst (λ r. AreKept after r true) (sym may.noted)
-    (kept_short w.engine after ready (ap (λ (q : Engine). q.settings) same) (ap (λ (q : Engine). q.frames) same) c.in_default.ensures.err
+    (kept_short w.engine after ready (ap (λ (q : Engine). q.settings) same) (ap (λ (q : Engine). q.frames) same) c.in-Err.ensures.err
     (all_still w.engine.overlay after.overlay (ap (λ (q : Engine). q.overlay) same)))
 
-pub invariant_of-self : goal.invariant_of-self
-invariant_of-self c =
+pub invariant_of-self-in_default : goal.invariant_of-self-in_default
+invariant_of-self-in_default c =
     let w = c.self.inside in
     let may = rw (← c.self.view_is) at c.requires.goes_on in
     let next = rw (← c.self.view_is) at c.requires.next in
@@ -38,8 +38,8 @@ invariant_of-self c =
     let same = c.mark.ensures.same in
     kept_of after w.refused w.stopped may.noted c.if-self.false
     (marked_kept w.engine after ready c.args.index c.args.step.now (next_of w.engine w.refused w.stopped c.args.index next) c.requires.kind
-    (record { settings = ap (λ (q : Engine). q.settings) same; frames = ap (λ (q : Engine). q.frames) same; log = c.in-Ok.ensures.ok })
-    (ap (λ (q : Engine). q.overlay) same) c.in-Ok.ensures.room)
+    (record { settings = ap (λ (q : Engine). q.settings) same; frames = ap (λ (q : Engine). q.frames) same; log = c.in_default.ensures.ok })
+    (ap (λ (q : Engine). q.overlay) same) c.in_default.ensures.room)
 
 pub returns-then-self-clause-headline : goal.returns-then-self-clause-headline
 returns-then-self-clause-headline c =
@@ -47,15 +47,15 @@ returns-then-self-clause-headline c =
     subst WorldHasHeadline c.self.view_is
     (kept_headline w.engine w.refused w.stopped c.self.invariant)
 
-pub returns-in_default-clause-headline : goal.returns-in_default-clause-headline
-returns-in_default-clause-headline c =
+pub returns-in-Err-clause-headline : goal.returns-in-Err-clause-headline
+returns-in-Err-clause-headline c =
     let w = c.self.inside in
     let may = rw (← c.self.view_is) at c.requires.goes_on in
     let ready = ready_of w.engine w.refused w.stopped c.self.invariant may c.if-self.false in
     let after = c.mark.new.self in
     let same = c.mark.ensures.same in
     kept_headline after None true
-    (kept_short w.engine after ready (ap (λ (q : Engine). q.settings) same) (ap (λ (q : Engine). q.frames) same) c.in_default.ensures.err
+    (kept_short w.engine after ready (ap (λ (q : Engine). q.settings) same) (ap (λ (q : Engine). q.frames) same) c.in-Err.ensures.err
     (all_still w.engine.overlay after.overlay (ap (λ (q : Engine). q.overlay) same)))
 
 pub returns-clause-headline : goal.returns-clause-headline
@@ -68,5 +68,5 @@ returns-clause-headline c =
     let same = c.mark.ensures.same in
     kept_headline after None false
     (marked_kept w.engine after ready c.args.index c.args.step.now (next_of w.engine w.refused w.stopped c.args.index next) c.requires.kind
-    (record { settings = ap (λ (q : Engine). q.settings) same; frames = ap (λ (q : Engine). q.frames) same; log = c.in-Ok.ensures.ok })
-    (ap (λ (q : Engine). q.overlay) same) c.in-Ok.ensures.room)
+    (record { settings = ap (λ (q : Engine). q.settings) same; frames = ap (λ (q : Engine). q.frames) same; log = c.in_default.ensures.ok })
+    (ap (λ (q : Engine). q.overlay) same) c.in_default.ensures.room)
