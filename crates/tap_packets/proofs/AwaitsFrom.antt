@@ -1,4 +1,5 @@
 -- What outboxes keep of frames that await, with one more and with one less.
+-- Cited above: others_than
 use Rattle.std.proofs.Common.{◌≡◌, ℕ, ◌+◌, ◌<◌, Bool, true, false, not, nat_eq, List, [], ◌∷◌, ◌++◌, length, filter, refl, ap, sym, ◌∙◌, cond, arith, inl, inr}
 use Rattle.std.specs.Prelude.{◌&&◌, ◌||◌}
 use Rattle.std.specs.List.{list_any}
@@ -19,7 +20,7 @@ use Rattle.tap_packets.proofs.StableWays.{tells-is, awaits-cons}
 
 -- ---- small facts
 
-eq-swaps : (a b : ℕ) → nat_eq a b ≡ nat_eq b a
+pub eq-swaps : (a b : ℕ) → nat_eq a b ≡ nat_eq b a
 eq-swaps a b = elim (cases_eq a b) [
   | inl e ↦ eq-eqb a b e ∙ sym (eq-eqb b a (sym e))
   | inr ne ↦ ne_eqb a b ne ∙ sym (ne_eqb b a (λ e. ne (sym e)))

@@ -1,4 +1,5 @@
 -- Boxes in which nothing is yet are what the beginning of a log says.
+-- Cited above: inboxes-begin, net-begins, outboxes-begin
 use Rattle.std.proofs.Common.{◌≡◌, ℕ, zero, suc, Bool, true, false, List, refl, ap, ◌∙◌, arith}
 use Rattle.std.specs.Prelude.{nat_le, ◌&&◌, ◌||◌}
 use Rattle.std.proofs.lemmas.Bool.{lt-leb}

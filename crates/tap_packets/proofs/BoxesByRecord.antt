@@ -1,4 +1,5 @@
 -- All boxes are what the log says, with each record that may come, and what their calls then answer.
+-- Cited above: boxes_answer_holds, sent-with
 use Rattle.std.proofs.Common.{◌≡◌, ℕ, true, false, not, nat_eq, List, [], ◌∷◌, ◌++◌, Option, None, Some, refl, ap, sym, ◌∙◌, arith, subst, inl, inr, append-nil, append_assoc}
 use Rattle.std.specs.Prelude.{◌&&◌, if◌then◌else◌, slice_get, Contains}
 use Rattle.std.specs.Option.{IfSome, option_map}
@@ -31,19 +32,19 @@ use Rattle.tap_packets.proofs.OutboxesMatching.{outboxes-others, outbox-answers,
 -- ---- what single records tell
 
 -- a record that sends a frame tells its number and its way
-sent-with : (settings : SettingsValue) (item : Record) (way : Way) → sent_way settings item ≡ Some way
+pub sent-with : (settings : SettingsValue) (item : Record) (way : Way) → sent_way settings item ≡ Some way
     → (number : ℕ) × (sent_number item ≡ Some number)
 unfolding sent_way sent_number
 sent-with settings (Sent number bytes) way is = (number, refl)
 sent-with settings item way is = absurd (none-some way is)
 
-sent-none : (settings : SettingsValue) (item : Record) → sent_way settings item ≡ None → sent_number item ≡ None
+pub sent-none : (settings : SettingsValue) (item : Record) → sent_way settings item ≡ None → sent_number item ≡ None
 unfolding sent_way sent_number
 sent-none settings (Sent number bytes) is = absurd (none-some _ (sym is))
 sent-none settings item is = refl
 
 -- no record sends a frame and has a packet arrive
-sent-or-arrived : (settings : SettingsValue) (item : Record) (way : Way) (number : ℕ) → sent_way settings item ≡ Some way
+pub sent-or-arrived : (settings : SettingsValue) (item : Record) (way : Way) (number : ℕ) → sent_way settings item ≡ Some way
     → arrived_number item ≡ Some number → ⊥
 unfolding sent_way arrived_number
 sent-or-arrived settings (Sent sent bytes) way number s a = none-some number a
@@ -58,9 +59,9 @@ made-or-ended item line number m e = none-some line m
 -- ---- outboxes
 
 -- with no arrival nothing is acknowledged
-nothing : (log : List Record) (item : Record) → Keeps log → arrived_number item ≡ None
+pub acked-nothing : (log : List Record) (item : Record) → Keeps log → arrived_number item ≡ None
     → (g : ℕ) → has_number (acknowledged_lines (at_most_one (arrived_number item)) (packet_lines log)) g ≡ false
-nothing log item kept a g =
+acked-nothing log item kept a g =
     ap (λ o. has_number (acknowledged_lines (at_most_one o) (packet_lines log)) g) a
     ∙ ap (λ l. has_number l g) (none-acknowledged 0 0 [] (packet_lines log) (omega arith) kept.made tt)
 
@@ -77,7 +78,7 @@ module _ (settings : SettingsValue) (log : List Record) (item : Record) (boxes a
   abbrev Then : Outboxes → Type 0
   Then = OutboxesMatch settings (log ++ item ∷ [])
 
-  arrives-then : (number : ℕ) → sent_way settings item ≡ None → arrived_number item ≡ Some number
+  pub arrives-then : (number : ℕ) → sent_way settings item ≡ None → arrived_number item ≡ Some number
       → AckArrives settings log number boxes after → Then after
   arrives-then number w a arrives =
       let line = arrives.line in
@@ -96,7 +97,7 @@ module _ (settings : SettingsValue) (log : List Record) (item : Record) (boxes a
             ∙ acknowledged-one 0 g line (packet_lines log) kept.made there.0 ∙ ap (λ b. b && nat_eq line.frame g) data_packet) match)
       ]
 
-  sends-then : (way : Way) → sent_way settings item ≡ Some way → arrived_number item ≡ None
+  pub sends-then : (way : Way) → sent_way settings item ≡ Some way → arrived_number item ≡ None
       → SendsFrom boxes after way.from way.to (sent_count log) → Then after
   sends-then way w a sends =
       let number = sent-with settings item way w in
@@ -113,7 +114,7 @@ module _ (settings : SettingsValue) (log : List Record) (item : Record) (boxes a
   outboxes-then None (Some number) w a sends arrives other = arrives-then number w a arrives
   outboxes-then None None w a sends arrives other =
       subst Then (sym (other refl refl))
-      (outboxes-others settings log item boxes kept next (sent-none settings item w) w (nothing log item kept a) match)
+      (outboxes-others settings log item boxes kept next (sent-none settings item w) w (acked-nothing log item kept a) match)
 
   pub outboxes-more : OutboxesAfter settings log item boxes after → Then after
   outboxes-more change =

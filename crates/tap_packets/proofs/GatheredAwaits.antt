@@ -1,9 +1,15 @@
 -- What the outboxes together keep.
-use Rattle.std.proofs.Common.{◌≡◌, ℕ, zero, suc, ◌+◌, ◌<◌, ◌≤◌, Bool, true, false, not, nat_eq, List, [], ◌∷◌, ◌++◌, length, map, filter, refl, ap, sym, ◌∙◌, cond, arith, subst, inl, inr, length-append, All, AllPairs}
+-- Cited above: gathered-in-order, outboxes_together_holds
+use Rattle.std.proofs.Common.{◌≡◌, ◌≢◌, ℕ, zero, suc, ◌+◌, ◌<◌, ◌≤◌, Bool, true, false, not, nat_eq, List, [], ◌∷◌, ◌++◌, length, map, filter, refl, ap, sym, ◌∙◌, cond, arith, subst, inl, inr, length-append, get_or, All, AllPairs}
 use Rattle.std.specs.Prelude.{◌&&◌, ◌||◌}
 use Rattle.std.specs.List.{flat_map, AllByRecursion}
+use Rattle.std.specs.List.Sorted.{IsPermutation}
 use Rattle.std.proofs.lemmas.Bool.{ne_eqb, eq-eqb, cases_eq, cases_order, or_left, false≢true}
 use Rattle.std.proofs.lemmas.List.Elements.{All-head, All-cons, All-nil, recursion_from_All}
+use Rattle.std.proofs.lemmas.Bool.Decides.{Decides-eqb}
+use Rattle.std.proofs.lemmas.List.Sorted.{IsPermutation-append_right, IsPermutation-cons, IsPermutation-middle, IsPermutation-refl, IsPermutation-sym, IsPermutation-trans, list_any-IsPermutation}
+use Rattle.std.proofs.lemmas.Map.Keys.{IsDistinct-IsPermutation}
+use Rattle.std.proofs.lemmas.Map.Made.{AllPairs-from_IsDistinct, IsDistinct-from_AllPairs}
 use Rattle.tap_name.specs.Settings.{SettingsValue}
 use Rattle.tap_log.specs.declared.record.Record.{Record}
 use Rattle.tap_history.specs.Moments.{has_number, acknowledged, awaiting}
@@ -15,10 +21,10 @@ use Rattle.tap_packets.specs.PacketLaws.{OutboxesTogether}
 use Rattle.tap_packets.specs.Matching.{Outboxes, is_from, await_of, awaits_from, OutboxesMatch, packet_along, frames_kept, times_named, AreSenders, data_packet_of}
 use Rattle.tap_packets.specs.Packets.{frames_sent}
 use Rattle.tap_packets.specs.Sequence.{Way, frame_ways, way_at}
-use Rattle.tap_packets.proofs.AwaitsFrom.{and-false}
-use Rattle.tap_packets.proofs.KeptForms.{keeps_from}
+use Rattle.tap_packets.proofs.AwaitsFrom.{and-false, eq-swaps}
+use Rattle.tap_packets.proofs.KeptForms.{Keeps, keeps_from}
 use Rattle.tap_packets.proofs.MoreUnderWay.{above}
-use Rattle.tap_packets.proofs.NumbersInRows.{AreFrom, has-append, less}
+use Rattle.tap_packets.proofs.NumbersInRows.{AreDistinct, AreFrom, has-append, less, pairs_of}
 use Rattle.tap_packets.proofs.SameWays.{name_is}
 use Rattle.tap_packets.proofs.StableWays.{awaits-cons}
 
@@ -255,6 +261,86 @@ gathered-sorted : (log : List Record) (frames : List ℕ) → KeepsPackets log �
 gathered-sorted log frames keeps rising same =
     same-rising 0 0 frames (awaiting log) (rising-of 0 frames (λ k d within. omega arith) rising)
     (rising-filter (λ n. not (has_number (acknowledged log) n)) 0 (frames_sent log) (keeps_from log keeps).numbered) same
+
+distinct-rising : (a : ℕ) (xs : List ℕ) → AreRising a xs → AreDistinct xs
+distinct-rising a [] h = tt
+distinct-rising a (x ∷ xs) h = (below-rising (x + 1) x xs h.1 (omega arith), distinct-rising (x + 1) xs h.1)
+
+-- no frame awaits twice
+pub awaiting-distinct : (log : List Record) → Keeps log → AreDistinct (awaiting log)
+awaiting-distinct log kept =
+    distinct-rising 0 (awaiting log) (rising-filter (λ n. not (has_number (acknowledged log) n)) 0 (frames_sent log) kept.numbered)
+
+-- ---- as a permutation
+
+none-step : (b : Bool) (f : ℕ) (mine more less : List ℕ) (name : List ℕ) (others : List (List ℕ))
+    → length (cond {A = List (List ℕ)} b (name ∷ others) others) ≡ 0 → (length others ≡ 0 → more ≡ less)
+    → cond {A = List ℕ} b (f ∷ mine) mine ++ more ≡ mine ++ less
+none-step true f mine more less name others none same = absurd (omega (arith, none))
+none-step false f mine more less name others none same = ap (λ l. mine ++ l) (same none)
+
+share-none : (ws : List Way) (f : ℕ) (frames : List ℕ) (names : List (List ℕ)) → times_named names (way_at ws f).from ≡ 0
+    → shares ws (f ∷ frames) names ≡ shares ws frames names
+share-none ws f frames [] none = refl
+share-none ws f frames (name ∷ names) none =
+    none-step (is_from ws name f) f (filter (is_from ws name) frames) (shares ws (f ∷ frames) names) (shares ws frames names) name
+    (filter (λ other. is_name (way_at ws f).from other) names) none (share-none ws f frames names)
+
+one-step : (b : Bool) (f : ℕ) (mine more less : List ℕ) (name : List ℕ) (others : List (List ℕ))
+    → length (cond {A = List (List ℕ)} b (name ∷ others) others) ≡ 1 → (length others ≡ 0 → more ≡ less)
+    → (length others ≡ 1 → IsPermutation (f ∷ less) more)
+    → IsPermutation (f ∷ (mine ++ less)) (cond {A = List ℕ} b (f ∷ mine) mine ++ more)
+one-step true f mine more less name others one same moved =
+    subst (λ l. IsPermutation (f ∷ (mine ++ less)) (f ∷ (mine ++ l))) (sym (same (omega (arith, one))))
+    (IsPermutation-refl (f ∷ (mine ++ less)))
+one-step false f mine more less name others one same moved =
+    IsPermutation-trans (f ∷ (mine ++ less)) (mine ++ f ∷ less) (mine ++ more)
+    (IsPermutation-sym (mine ++ f ∷ less) (f ∷ (mine ++ less)) (IsPermutation-middle mine f less))
+    (IsPermutation-append_right mine (f ∷ less) more (moved one))
+
+-- a frame more is one more in the share of its sender
+share-moves : (ws : List Way) (f : ℕ) (frames : List ℕ) (names : List (List ℕ)) → times_named names (way_at ws f).from ≡ 1
+    → IsPermutation (f ∷ shares ws frames names) (shares ws (f ∷ frames) names)
+share-moves ws f frames [] one = absurd (omega (arith, one))
+share-moves ws f frames (name ∷ names) one =
+    one-step (is_from ws name f) f (filter (is_from ws name) frames) (shares ws (f ∷ frames) names) (shares ws frames names) name
+    (filter (λ other. is_name (way_at ws f).from other) names) one (share-none ws f frames names) (share-moves ws f frames names)
+
+shares-moved : (ws : List Way) (frames : List ℕ) (names : List (List ℕ)) → Senders ws names frames
+    → IsPermutation frames (shares ws frames names)
+shares-moved ws [] names senders = subst (IsPermutation []) (sym (no-shares ws names)) (IsPermutation-refl [])
+shares-moved ws (f ∷ frames) names senders =
+    IsPermutation-trans (f ∷ frames) (f ∷ shares ws frames names) (shares ws (f ∷ frames) names)
+    (IsPermutation-cons f frames (shares ws frames names) (shares-moved ws frames names senders.1))
+    (share-moves ws f frames names senders.0)
+
+apart-moved : (xs ys : List ℕ) → IsPermutation xs ys → AllPairs (λ a b. a ≢ b) xs → AllPairs (λ a b. a ≢ b) ys
+apart-moved xs ys moved apart =
+    AllPairs-from_IsDistinct {eq = nat_eq} Decides-eqb ys
+    (IsDistinct-IsPermutation nat_eq eq-swaps xs ys moved (IsDistinct-from_AllPairs {eq = nat_eq} Decides-eqb xs apart))
+
+rises : (a b : ℕ) → a ≤ b → a ≢ b → a < b
+rises a b le apart = elim (cases_eq a b) [
+  | inl same ↦ absurd (apart same)
+  | inr other ↦ omega (arith, le, other)
+]
+
+-- what the outboxes of these names keep, sorted, is what awaits
+pub gathered-in-order : (settings : SettingsValue) (log : List Record) (boxes : Outboxes) (names : List (List ℕ)) (frames : List ℕ)
+    → KeepsPackets log → OutboxesMatch settings log boxes → AreSenders (frame_ways settings log) names (awaiting log)
+    → IsPermutation (frames_kept boxes names) frames → AllPairs (λ frame other. frame ≤ other) frames → frames ≡ awaiting log
+gathered-in-order settings log boxes names frames keeps match senders moved ordered =
+    let ws = frame_ways settings log in
+    let kept = frames_kept boxes names in
+    let shared : IsPermutation (awaiting log) kept =
+    subst (IsPermutation (awaiting log)) (sym (kept-is settings log boxes names match))
+    (shares-moved ws (awaiting log) names (senders-from ws names (awaiting log) senders)) in
+    let apart = apart-moved kept frames moved
+    (apart-moved (awaiting log) kept shared (pairs_of (awaiting log) (awaiting-distinct log (keeps_from log keeps)))) in
+    gathered-sorted log frames keeps
+    (λ i j d less within. rises (get_or frames i d) (get_or frames j d) (ordered i j d less within) (apart i j d less within))
+    (λ frame. sym (list_any-IsPermutation (λ other. nat_eq other frame) kept frames moved)
+    ∙ gathered-is settings log boxes names match senders frame)
 
 pub outboxes_together_holds : OutboxesTogether
 outboxes_together_holds = record { gathered = gathered-is; count = gathered-count; packets = gathered-packets; sorted = gathered-sorted }

@@ -1,4 +1,5 @@
 -- What a log keeps of its packets, by recursion on its lists.
+-- Cited above: among_from
 use Rattle.std.proofs.Common.{◌≡◌, ℕ, zero, suc, ◌<◌, true, List, [], ◌∷◌, length, refl, ap, sym, ◌∙◌, arith, subst, inl, inr, ◌⊎◌}
 use Rattle.std.specs.Prelude.{Contains}
 use Rattle.std.specs.List.{filter_map, range_with_len, AllByRecursion}

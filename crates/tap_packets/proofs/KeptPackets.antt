@@ -1,4 +1,5 @@
 -- One more record that may follow keeps what a carried log keeps.
+-- Cited above: is-under_way
 use Rattle.std.proofs.Common.{◌≡◌, ℕ, ◌+◌, ◌<◌, ◌≤◌, Bool, true, false, not, nat_eq, List, [], ◌∷◌, ◌++◌, length, filter, Option, None, Some, refl, ap, sym, ◌∙◌, cond, arith, subst, inl, inr, length-append, append-nil, append_assoc}
 use Rattle.std.specs.Prelude.{◌||◌}
 use Rattle.std.specs.Option.{IfSome}

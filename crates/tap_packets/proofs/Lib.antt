@@ -1,22 +1,23 @@
-mod SameWays
+pub mod SameWays
 mod SequenceNumbers
 mod NumbersInRows
-mod KeptForms
+pub mod KeptForms
 mod MoreUnderWay
-mod KeptPackets
-mod RecordsCome
+pub mod KeptPackets
+pub mod RecordsCome
 pub mod GroupsCome
 pub mod ActedRecords
-mod TakenOnce
-mod StableWays
+pub mod TakenOnce
+pub mod StableWays
 mod WaysOfBytes
 mod NetMatching
 mod InboxesMatching
-mod AwaitsFrom
+pub mod AwaitsFrom
 mod OutboxesMatching
-mod BoxesBegin
-mod BoxesByRecord
-mod GatheredAwaits
+pub mod BoxesBegin
+pub mod BoxesByRecord
+pub mod GatheredAwaits
+pub mod OneRecord
 mod LinesCounted
 mod GroupsTell
 mod StrandedFrames

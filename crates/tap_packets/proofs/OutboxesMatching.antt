@@ -249,6 +249,14 @@ module _ (settings : SettingsValue) (log : List Record) (way : Way) (item : Reco
 
 -- ---- an acknowledgement arrives
 
+-- what awaits without the frame that this packet acknowledges
+pub one-less : (log : List Record) (line : PacketLine) → Keeps log → AmongLines line (lines_under_way log) → line.ack ≡ true
+    → numbers_less (awaiting log) (acknowledged_lines (line.number ∷ []) (packet_lines log)) ≡ others_than line.frame (awaiting log)
+one-less log line kept among ack =
+    let there = among-filter (λ (l : PacketLine). not (has_number (packets_ended log) l.number)) line (packet_lines log) among in
+    filter_agree (λ g. not (has_number (acknowledged_lines (line.number ∷ []) (packet_lines log)) g)) (λ g. not (nat_eq line.frame g))
+    (λ g. ap not (acknowledged-one 0 g line (packet_lines log) kept.made there.0 ∙ ap (λ b. b && nat_eq line.frame g) ack)) (awaiting log)
+
 -- the frame's acknowledgement arrives at its sender
 module _ (settings : SettingsValue) (log : List Record) (line : PacketLine) (item : Record) (boxes after : Outboxes) (kept : Keeps log)
     (next : MayCome log item) (none : sent_number item ≡ None) (no_way : sent_way settings item ≡ None)
@@ -266,12 +274,6 @@ module _ (settings : SettingsValue) (log : List Record) (line : PacketLine) (ite
   abbrev seq : ℕ
   seq = sequence_in acked_ways line.frame
 
-  one-less : numbers_less (awaiting log) (acknowledged_lines (line.number ∷ []) (packet_lines log)) ≡ others_than line.frame (awaiting log)
-  one-less =
-      let there = among-filter (λ (l : PacketLine). not (has_number (packets_ended log) l.number)) line (packet_lines log) among in
-      filter_agree (λ g. not (has_number (acknowledged_lines (line.number ∷ []) (packet_lines log)) g)) (λ g. not (nat_eq line.frame g))
-      (λ g. ap not (acknowledged-one 0 g line (packet_lines log) kept.made there.0 ∙ ap (λ b. b && nat_eq line.frame g) ack)) (awaiting log)
-
   acked-lines : (name : List ℕ) → awaits_from (frame_ways settings (log ++ item ∷ [])) (awaiting (log ++ item ∷ [])) name
       ≡ awaits_from acked_ways (others_than line.frame (awaiting log)) name
   acked-lines name =
@@ -281,7 +283,7 @@ module _ (settings : SettingsValue) (log : List Record) (line : PacketLine) (ite
       ∙ ap (λ o. left (arrived_number item) ++ awaits_from (acked_ways ++ at_most_one (sent_way settings item)) (at_most_one o) name) none
       ∙ append-nil (left (arrived_number item))
       ∙ ap left arrives
-      ∙ ap (λ l. awaits_from acked_ways l name) one-less
+      ∙ ap (λ l. awaits_from acked_ways l name) (one-less log line kept among ack)
 
   acked-awaits : IsAckedAt boxes after sender receiver seq → (name : List ℕ)
       → (after name).awaits ≡ awaits_from (frame_ways settings (log ++ item ∷ [])) (awaiting (log ++ item ∷ [])) name

@@ -1,4 +1,6 @@
 -- Which single records may come, and lists of them.
+-- Cited above: first-none, line-of-arrived, line-of-packet, line-of-taken, next-lost, next-packet, next-step, next-ticked, taken-of-arrived,
+-- taken-of-packet, taken-of-taken
 use Rattle.std.proofs.Common.{◌≡◌, ℕ, ◌+◌, true, List, [], ◌∷◌, ◌++◌, length, map, Option, None, Some, refl, ap, sym, ◌∙◌, arith, subst, length-append, append-nil, append_assoc}
 use Rattle.std.specs.List.{cons_option}
 use Rattle.std.specs.Option.{IfSome}
@@ -120,7 +122,7 @@ first-from : (n : ℕ) (o : Option ℕ) (rest : List ℕ) → AreFrom n (cons_op
 first-from n None rest from = (tt, subst (λ k. AreFrom k rest) (let e : n ≡ n + 0 = omega arith in e) from)
 first-from n (Some k) rest from = from
 
-first-none : {Y : Type 0} (o : Option Y) (rest : List Y) → cons_option o rest ≡ [] → (o ≡ None) × (rest ≡ [])
+pub first-none : {Y : Type 0} (o : Option Y) (rest : List Y) → cons_option o rest ≡ [] → (o ≡ None) × (rest ≡ [])
 first-none None rest is = (refl, is)
 first-none (Some k) rest is = cc
 

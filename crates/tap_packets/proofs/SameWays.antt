@@ -1,4 +1,5 @@
 -- Two names or ways that a test says are the same are one.
+-- Cited above: name_is, name_itself
 use Rattle.std.proofs.Common.{◌≡◌, ℕ, true, List, ap, sym, ◌∙◌}
 use Rattle.std.proofs.lemmas.Bool.{and_parts, and_from}
 use Rattle.std.specs.Cmp.Lexicographic.{same_text}

@@ -1,4 +1,5 @@
 -- A frame keeps its way and its sequence number while the log grows.
+-- Cited above: awaits-cons, ways-size
 use Rattle.std.proofs.Common.{◌≡◌, ℕ, ◌+◌, ◌<◌, Bool, true, false, nat_eq, List, [], ◌∷◌, ◌++◌, length, map, filter, take, refl, ap, sym, ◌∙◌, cond, arith, inl, inr}
 use Rattle.std.specs.Prelude.{◌&&◌, ◌||◌, if◌then◌else◌}
 use Rattle.std.proofs.lemmas.Bool.{ne_eqb, eq-eqb, cases_eq, and_from, false_from_ne_true}
@@ -48,7 +49,8 @@ with_way line way seq =
       ack = line.ack;
     })
 
-numbered-stay : (ws more : List Way) (line : PacketLine) → line.frame < length ws
+-- a packet goes the same way as frames are sent later
+pub numbered-stay : (ws more : List Way) (line : PacketLine) → line.frame < length ws
     → numbered_along (ws ++ more) line ≡ numbered_along ws line
 unfolding with_way
 numbered-stay ws more line low =

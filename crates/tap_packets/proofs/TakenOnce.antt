@@ -1,4 +1,5 @@
 -- Each frame is taken at most once, and exactly once at rest.
+-- Cited above: taken_once_holds
 use Rattle.std.proofs.Common.{◌≡◌, ℕ, suc, ◌<◌, ◌≤◌, Bool, true, false, not, nat_eq, List, [], ◌∷◌, ◌++◌, length, filter, None, Some, refl, ap, sym, ◌∙◌, cond, arith, subst, inl, inr, ◌⊎◌, append-nil, append_assoc}
 use Rattle.std.specs.Prelude.{◌&&◌, ◌||◌, if◌then◌else◌}
 use Rattle.std.specs.List.{cons_option}
