@@ -1,5 +1,5 @@
 -- The groups that steps and frames add to the log of a world: each may follow it, if no more frames are sent than may be.
--- Cited above: choice_may, clash, follows_within, quiet_within, silent_within
+-- Cited above: at_none, choice_may, clash, follows_within, quiet_within, silent_within
 use Rattle.std.proofs.Common.{◌≡◌, ◌⊎◌, inl, inr, ℕ, zero, suc, ◌||◌, Bool, true, false, nat_eq, List, [], ◌∷◌, ◌++◌, length, slice_get, Option, None, Some, refl, ap, sym, subst, ◌∙◌, arith}
 use Rattle.std.specs.Option.{option_zip}
 use Rattle.std.specs.List.{filter_map}

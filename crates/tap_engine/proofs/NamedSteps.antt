@@ -1,5 +1,5 @@
 -- The names of a world's log are names of its settings.
--- Cited above: step_named, unbegun_named
+-- Cited above: nothing_named, step_named, unbegun_named
 use Rattle.std.proofs.Common.{◌≡◌, ℕ, Bool, true, false, List, [], ◌∷◌, ◌++◌, All, Option, None, Some, IfSome, sym, subst}
 use Rattle.std.specs.Prelude.{if◌then◌else◌, fold}
 use Rattle.std.specs.List.{cons_option, filter_map}

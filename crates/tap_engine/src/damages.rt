@@ -101,7 +101,7 @@ fn wire_fault(fault: OverlayFault) -> WireFault
     }
 }
 
-// The place of the frame of which a step offers a damaged copy, and how it damages the copy.
+// The place of the frame that a step copies which offers a damaged one, and how it damages the copy.
 #[tactic(auto, unfolding(crate::specs::Kinds::damages))]
 fn damage_of(step: &Step) -> (u32, Damage)
     requires { damages step.now ≡ true }
