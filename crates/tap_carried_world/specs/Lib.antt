@@ -1,0 +1,4 @@
+pub mod Value
+pub mod Comes
+pub mod Adds
+pub mod Taking
