@@ -111,7 +111,7 @@ steps_played joins seed few =
     (λ n p m q. refl) (λ n p m q. refl) joins seed few
 
 can_be_played : (joins seed : ℕ) → joins ≤ 100 → CanBePlayed (made joins seed)
-can_be_played joins seed few = record { uncarried = refl; steps = steps_played joins seed few }
+can_be_played joins seed few = record { steps = steps_played joins seed few }
 
 -- ---- there are few steps
 

@@ -77,26 +77,6 @@ frames_of_table-limits p t n e =
           rw (← is) (default_frames-limits p.digits)
     ]
 
-carrier_of-uncarried : (value : Data) (carrier : Bool) → carrier_of value ≡ Some carrier → carrier ≡ false
-carrier_of-uncarried (boolean true) carrier e = absurd (cc)
-carrier_of-uncarried (boolean false) carrier e = cc
-carrier_of-uncarried (string text) carrier e = absurd (cc)
-carrier_of-uncarried (integer z) carrier e = absurd (cc)
-carrier_of-uncarried (float x) carrier e = absurd (cc)
-carrier_of-uncarried (datetime d) carrier e = absurd (cc)
-carrier_of-uncarried (array items) carrier e = absurd (cc)
-carrier_of-uncarried (table entries) carrier e = absurd (cc)
-
-carrier_of_table-uncarried : (t : Table) (carrier : Bool) → carrier_of_table t ≡ Ok carrier → carrier ≡ false
-carrier_of_table-uncarried t carrier e =
-    elim (cases_Bool (is_some (value_at Carrier t))) [
-      | inl there ↦
-          let told = ok_or-Ok (option_and_then carrier_of (value_at Carrier t)) (BadValue Carrier) carrier (rw there at e) in
-          let value = and_then-back carrier_of (value_at Carrier t) carrier told in
-          carrier_of-uncarried value.0 carrier value.2
-      | inr absent ↦ let same : Ok false ≡ Ok carrier = rw absent at e in cc
-    ]
-
 cons_both-Some : {A : Type 0} (first : Option A) (others : Option (List A)) (all : List A) → cons_both first others ≡ Some all
     → (x : A) × (xs : List A) × (first ≡ Some x) × (others ≡ Some xs) × (x ∷ xs ≡ all)
 cons_both-Some None others all e = absurd (cc)
@@ -233,9 +213,9 @@ IsScript-parts t p frames carrier members steps is_p is_frames is_members is_ste
 
 -- a run takes a scenario of the parts that a table gives
 pub CanBePlayed-parts : (t : Table) (p : SettingsValue) (frames : ℕ) (carrier : Bool) (members : List (List ℕ)) (steps : List Step)
-    → settings_of_table t ≡ Ok p → carrier_of_table t ≡ Ok carrier → steps_of_table p carrier t ≡ Ok steps
+    → settings_of_table t ≡ Ok p → steps_of_table p carrier t ≡ Ok steps
     → CanBePlayed (record { settings = p; frames = frames; carrier = carrier; members = members; steps = steps })
-CanBePlayed-parts t p frames carrier members steps is_p is_carrier is_steps =
+CanBePlayed-parts t p frames carrier members steps is_p is_steps =
     let settings = settings_of_table-limits t p is_p in
     let read = steps_of_table-limits p carrier t steps settings.base_to is_steps in
-    record { uncarried = carrier_of_table-uncarried t carrier is_carrier; steps = λ k d h. (read.1 k d h).runs }
+    record { steps = λ k d h. (read.1 k d h).runs }

@@ -38,7 +38,6 @@ pub record IsScript (s : ScenarioValue) : Type 0 where
   pub steps_to : length s.steps ≤ most_steps
   pub steps : All (IsStep s.settings s.carrier) s.steps
 
--- a run takes it: it isn't carried, and a run takes each of its steps
+-- a run takes it: a run takes each of its steps
 pub record CanBePlayed (s : ScenarioValue) : Type 0 where
-  pub uncarried : s.carrier ≡ false
   pub steps : All (λ step. IsTrue (is_played step)) s.steps

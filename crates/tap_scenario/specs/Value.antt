@@ -11,9 +11,9 @@ abbrev pub whole_number : ℕ → ℕ → Data → Option ℕ
 whole_number low high (integer (pos n)) = if nat_le low n && nat_le n high then Some n else None
 whole_number low high _ = None
 
--- whether a scenario is carried: carried scenarios aren't run yet, so `true` isn't taken
+-- whether a scenario is carried
 abbrev pub carrier_of : Data → Option Bool
-carrier_of (boolean carrier) = if carrier then None else Some carrier
+carrier_of (boolean carrier) = Some carrier
 carrier_of _ = None
 
 -- whether each of these is a string

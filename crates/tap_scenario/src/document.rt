@@ -257,8 +257,8 @@ fn read_table(alloc: Global, table: &Table) -> Result<Scenario, ReadRefusal>
 /// The text is TOML with the keys `base` (2 to 16), `digits` (1 to 40), `width` (1 to 4), `members` (an array of 1 to
 /// 64 strings, distinct names) and `steps` (an array of at most 10,000 strings, each the text of a step). A key
 /// `frames` may stand beside them: 1 to 500,000, and 200,000 if it is absent; if `digits` is above 8, 1 to
-/// 100,000, and 100,000 if it is absent. So may a key `carrier`: false, and false if it is absent, since carried
-/// scenarios aren't run yet. Of several faults the answer is the first one in the order of [`Fault`]'s variants.
+/// 100,000, and 100,000 if it is absent. So may a key `carrier`, true or false: whether the run is carried, and false
+/// if it is absent. Of several faults the answer is the first one in the order of [`Fault`]'s variants.
 ///
 /// Rule: docs/FORMATS.md, "The scenario".
 pub fn read(alloc: Global, bytes: &[u8]) -> Result<Scenario, ReadRefusal>

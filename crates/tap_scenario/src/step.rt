@@ -63,14 +63,15 @@ pub enum Step {
     },
     /// Has one frame taken; in a carried scenario, one packet arrive.
     Deliver {
-        /// The place of the frame among the outstanding ones, from 0, in the order in which they were sent.
+        /// The place of the frame among the outstanding ones, or of the packet among those under way, from 0 for the first one.
         place: u32,
     },
-    /// Has the frame that was sent first taken, until none is outstanding.
+    /// Has the frame that was sent first taken, until none is outstanding; in a carried scenario, the packet that was made first arrive,
+    /// with a tick whenever none is under way and a frame awaits.
     Settle,
-    /// Has the frame that was sent last taken, until none is outstanding.
+    /// Has the frame that was sent last taken, until none is outstanding; in a carried scenario likewise the packet that was made last.
     SettleNewest,
-    /// Has frames taken in a mixed order, until none is outstanding.
+    /// Has frames taken in a mixed order, until none is outstanding; in a carried scenario packets arrive so.
     SettleMixed {
         /// The number from which the mixing starts.
         seed: u64,

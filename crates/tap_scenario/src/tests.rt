@@ -53,7 +53,7 @@ const TEXTS: [(&str, (u32, usize, usize)); 8] = [
 ];
 
 // Lines, each in place of its key's, with what is then wrong.
-const REFUSED: [(&str, &str, Fault); 46] = [
+const REFUSED: [(&str, &str, Fault); 47] = [
     ("base", "base = 4\nbase = 4\n", Fault::NotToml),
     ("steps", "steps = [\n", Fault::NotToml),
     ("base", "", Fault::BadKey(Key::Base)),
@@ -83,7 +83,6 @@ const REFUSED: [(&str, &str, Fault); 46] = [
         Fault::BadValue(Key::Frames),
     ),
     ("frames", "frames = true\n", Fault::BadValue(Key::Frames)),
-    ("carrier", "carrier = true\n", Fault::BadValue(Key::Carrier)),
     ("carrier", "carrier = 1\n", Fault::BadValue(Key::Carrier)),
     (
         "carrier",
@@ -102,7 +101,7 @@ const REFUSED: [(&str, &str, Fault); 46] = [
     ),
     (
         "members",
-        "members = []\ncarrier = true\n",
+        "members = []\ncarrier = 2\n",
         Fault::BadValue(Key::Carrier),
     ),
     ("members", "members = []\n", Fault::BadValue(Key::Members)),
@@ -175,6 +174,16 @@ const REFUSED: [(&str, &str, Fault); 46] = [
         "steps",
         "steps = [\"table 000\", \"join 123 via 000\", \"tick\"]\n",
         Fault::BadStep(3),
+    ),
+    (
+        "steps",
+        "carrier = true\nsteps = [\"tick\", \"cut 0 1\"]\n",
+        Fault::BadStep(2),
+    ),
+    (
+        "steps",
+        "carrier = true\nsteps = [\"lose 4294967296\"]\n",
+        Fault::BadStep(1),
     ),
 ];
 

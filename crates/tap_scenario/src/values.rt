@@ -30,14 +30,11 @@ pub(crate) fn whole_number(value: &Value, low: u32, high: u32) -> Option<u32>
     }
 }
 
-// Whether a value says that a scenario is carried. Carried scenarios aren't run yet, so `true` isn't taken.
+// Whether a scenario is carried, by its value.
 pub(crate) fn carrier_of(value: &Value) -> Option<bool>
     ensures { result ≡ carrier_of (view value.now) }
 {
-    match value.as_bool() {
-        Some(carrier) if !carrier => Some(carrier),
-        _ => None,
-    }
+    value.as_bool()
 }
 
 // Whether each of these values is a string.

@@ -15,4 +15,4 @@ pub returns-clause-runs : goal.returns-clause-runs
 returns-clause-runs c =
     subst CanBePlayed (sym c.from_lists.ensures)
     (CanBePlayed-parts (table_view c.args.table.now) c.in_ok-settings.settings c.in_ok-frames.frames c.in_ok-carrier.carrier
-    c.in_ok-members.members c.in_ok-steps.steps (sym c.in_ok-settings.ensures) (sym c.in_ok-carrier.ensures) c.in_ok-steps.ensures)
+    c.in_ok-members.members c.in_ok-steps.steps (sym c.in_ok-settings.ensures) c.in_ok-steps.ensures)
