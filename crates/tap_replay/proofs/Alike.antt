@@ -1,5 +1,4 @@
 -- A run of a scenario is one of each other scenario by which a player may turn.
--- Cited above: may_turn
 use Rattle.std.proofs.Common.{◌≡◌, inl, inr, ℕ, zero, suc, ◌+◌, ◌<◌, ◌≤◌, Bool, true, false, List, [], ◌∷◌, ◌++◌, length, take, Option, None, Some, refl, ap, sym, subst, ◌∙◌, arith, append-nil}
 use Rattle.std.specs.Prelude.{if◌then◌else◌, slice_get}
 use Rattle.std.specs.Option.{option_map, option_map_or}
@@ -19,25 +18,25 @@ use Rattle.tap_runs.specs.Group.{step_records}
 use Rattle.tap_runs.proofs.CourseGrows.{starts_begun}
 use Rattle.tap_engine.specs.Kinds.{finishes_run, is_finished}
 use Rattle.tap_engine.specs.World.{WorldValue}
+use Rattle.tap_carried.specs.LogTurns.{beginning_records}
 use Rattle.tap_lawful.specs.Due.{number_due}
 use Rattle.tap_lawful.specs.Next.{beginning_in, begun_count, group_after, next_group}
 use Rattle.tap_runs.specs.Groups.{step_group, taken_group}
 use Rattle.tap_lawful.specs.Lawful.{IsFinished, IsPlayed, IsSpent, step_alone}
 use Rattle.tap_lawful.specs.PlayedLaws.{BeginsAlike}
-use Rattle.tap_lawful.proofs.Alike.{played_alike}
+use Rattle.tap_lawful.proofs.Alike.{at_of_take, played_alike}
 use Rattle.tap_lawful.proofs.Coming.{BeginsNext, TakesDue, coming}
-use Rattle.tap_lawful.proofs.BegunSteps.{played_all, played_steps}
+use Rattle.tap_lawful.proofs.BegunSteps.{played_all}
 use Rattle.tap_replay.specs.Player.{HasEnded, IsLeft, MayTurn}
 use Rattle.tap_replay.specs.Run.{IsRunOf, WorldGoesOn}
 use Rattle.tap_replay.specs.declared.end.End.{End}
 use Rattle.tap_replay.specs.declared.end.End.TheVariants.{Done, NoMemory, Spent}
 use Rattle.tap_replay.specs.declared.run.Run.{Run}
-use Rattle.tap_replay.proofs.Running.{unfinished}
 
 -- ---- lists
 
 -- the first ones of the first ones
-take_first : {X : Type 0} (n : ℕ) (xs ys zs : List X) → take n xs ≡ ys ++ zs → take (length ys) xs ≡ ys
+pub take_first : {X : Type 0} (n : ℕ) (xs ys zs : List X) → take n xs ≡ ys ++ zs → take (length ys) xs ≡ ys
 take_first n xs [] zs is = refl
 take_first zero xs (y ∷ ys) zs is = absurd (cc)
 take_first (suc n) [] (y ∷ ys) zs is = absurd (cc)
@@ -45,15 +44,6 @@ take_first (suc n) (x ∷ xs) (y ∷ ys) zs is =
     let same : x ≡ y = cc in
     let rest : take n xs ≡ ys ++ zs = cc in
     ap (λ l. x ∷ l) (take_first n xs ys zs rest) ∙ ap (λ z. z ∷ ys) same
-
--- the element at a place of the first ones
-at_of_take : {X : Type 0} (n : ℕ) (xs ys zs : List X) (y : X) → take n xs ≡ ys ++ y ∷ zs → slice_get xs (length ys) ≡ Some y
-at_of_take zero xs [] zs y is = absurd (cc)
-at_of_take zero xs (z ∷ ys) zs y is = absurd (cc)
-at_of_take (suc n) [] [] zs y is = absurd (cc)
-at_of_take (suc n) [] (z ∷ ys) zs y is = absurd (cc)
-at_of_take (suc n) (x ∷ xs) [] zs y is = let same : x ≡ y = cc in ap Some same
-at_of_take (suc n) (x ∷ xs) (z ∷ ys) zs y is = let rest : take n xs ≡ ys ++ y ∷ zs = cc in at_of_take n xs ys zs y rest
 
 -- ---- with what a log begins
 
@@ -81,8 +71,21 @@ begun_with other item = other
 
 -- ---- another scenario by which a player may turn
 
+-- a player may turn by the scenario, if that isn't carried
+pub record MayTurnPlain (s : ScenarioValue) (log : List Record) : Type 0 where
+  pub begins : beginning_of log ≡ begin_record (beginning_in s) ∷ []
+  pub steps : begun_steps log ≡ take (begun_count log) s.steps
+  pub all : is_finished log ≡ true → begun_steps log ≡ s.steps
+
+pub plain_may : (s : ScenarioValue) (log : List Record) → s.carrier ≡ false → MayTurn s log → MayTurnPlain s log
+plain_may s log uncarried may = record {
+  begins = may.begins ∙ ap (λ c. beginning_records c (beginning_in s)) uncarried;
+  steps = may.steps;
+  all = may.all;
+}
+
 module _ (s other : ScenarioValue) (log played rest : List Record) (is : log ≡ played ++ rest) (was : IsPlayed s played)
-    (may : MayTurn other log) where
+    (may : MayTurnPlain other log) where
   all_steps : take (begun_count log) other.steps ≡ begun_steps played ++ begun_steps rest
   all_steps = sym may.steps ∙ ap begun_steps is ∙ filter_map-append step_of played rest
 
@@ -124,7 +127,7 @@ module _ (s other : ScenarioValue) (log played rest : List Record) (is : log ≡
 
 -- ---- a run that goes on
 
-module _ (s other : ScenarioValue) (log : List Record) (played : IsPlayed s log) (may : MayTurn other log) where
+module _ (s other : ScenarioValue) (log : List Record) (played : IsPlayed s log) (may : MayTurnPlain other log) where
   still : IsPlayed other log
   still = other_played s other log log [] (sym (append-nil log)) played may
 
@@ -137,7 +140,7 @@ module _ (s other : ScenarioValue) (log : List Record) (played : IsPlayed s log)
     unremarked = on.unremarked;
   }
 
-pub run_alike : (s other : ScenarioValue) (run : Run) → IsRunOf s run → MayTurn other run.world.log → IsRunOf other run
+pub run_alike : (s other : ScenarioValue) (run : Run) → IsRunOf s run → MayTurnPlain other run.world.log → IsRunOf other run
 run_alike s other run of may = record {
   goes_on = goes_on_alike s other run.world.log of.goes_on.played may run.world refl of.goes_on;
   begun = of.begun;
@@ -159,7 +162,7 @@ alone_begins p log group limit begun =
         → begun_steps (step_alone (StepRecord index step ∷ items) ++ SpentRecord limit ∷ []) ≡ step ∷ []
     first_begun index step items = refl
 
-spent_alike : (s other : ScenarioValue) (log played : List Record) → IsPlayed s played → (spent : IsSpent s played log) → MayTurn other log
+spent_alike : (s other : ScenarioValue) (log played : List Record) → IsPlayed s played → (spent : IsSpent s played log) → MayTurnPlain other log
     → HasEnded other Spent log
 spent_alike s other log played was spent may =
     let rest = step_alone spent.group ++ SpentRecord s.frames ∷ [] in
@@ -184,6 +187,11 @@ pub finished_so : (played : List Record) (steps : ℕ) → is_finished (played +
 unfolding finishes_run
 finished_so played steps = ap (λ last. option_map_or finishes_run last false) (last_of-push played (Finished steps))
 
+-- a log that ends with `Spent` has no `Finished`
+pub spent_so : (log : List Record) (limit : ℕ) → is_finished (log ++ SpentRecord limit ∷ []) ≡ false
+unfolding finishes_run
+spent_so log limit = ap (λ last. option_map_or finishes_run last false) (last_of-push log (SpentRecord limit))
+
 -- which group comes next is said by the settings and the steps
 next_group_alike : (s other : ScenarioValue) (log : List Record) → other.settings ≡ s.settings → other.steps ≡ s.steps
     → next_group other log ≡ next_group s log
@@ -196,7 +204,7 @@ next_group_alike s other log settings steps = by_due (number_due log)
         ∙ ap (λ all. option_map (step_group s.settings log (begun_count log + 1)) (slice_get all (begun_count log))) steps
 
 -- a scenario by which a player may turn after the last step has the same steps
-finished_alike : (s other : ScenarioValue) (log played : List Record) → IsPlayed s played → IsFinished s played log → MayTurn other log
+finished_alike : (s other : ScenarioValue) (log played : List Record) → IsPlayed s played → IsFinished s played log → MayTurnPlain other log
     → HasEnded other Done log
 finished_alike s other log played was finished may =
     let rest : List Record = Finished (length s.steps) ∷ [] in
@@ -213,7 +221,7 @@ finished_alike s other log played was finished may =
       },
     )
 
-ended_alike : (s other : ScenarioValue) (end : End) (log : List Record) → HasEnded s end log → MayTurn other log → HasEnded other end log
+ended_alike : (s other : ScenarioValue) (end : End) (log : List Record) → HasEnded s end log → MayTurnPlain other log → HasEnded other end log
 ended_alike s other Done log ended may = finished_alike s other log ended.0 ended.1 ended.2 may
 ended_alike s other Spent log ended may = spent_alike s other log ended.0 ended.1 ended.2 may
 ended_alike s other NoMemory log ended may = still s other log ended may
@@ -221,7 +229,7 @@ ended_alike s other NoMemory log ended may = still s other log ended may
 -- ---- what such a run leaves
 
 -- both begin alike
-begin_alike : (s other : ScenarioValue) (end : End) (log : List Record) → HasEnded s end log → MayTurn other log
+begin_alike : (s other : ScenarioValue) (end : End) (log : List Record) → HasEnded s end log → MayTurnPlain other log
     → beginning_in other ≡ beginning_in s
 begin_alike s other Done log ended may =
     (alike s other log ended.0 (Finished (length s.steps) ∷ []) ended.2.log_is ended.1 may).beginning
@@ -229,7 +237,7 @@ begin_alike s other Spent log ended may =
     (alike s other log ended.0 (step_alone ended.2.group ++ SpentRecord s.frames ∷ []) ended.2.log_is ended.1 may).beginning
 begin_alike s other NoMemory log ended may = (alike s other log log [] (sym (append-nil log)) ended may).beginning
 
-pub left_alike : (s other : ScenarioValue) (end : End) (w : WorldValue) → IsLeft s end w → MayTurn other w.log → IsLeft other end w
+pub left_alike : (s other : ScenarioValue) (end : End) (w : WorldValue) → IsLeft s end w → MayTurnPlain other w.log → IsLeft other end w
 left_alike s other end w left may = record {
   ended = ended_alike s other end w.log left.ended may;
   beginning = left.beginning ∙ sym (begin_alike s other end w.log left.ended may);
@@ -237,14 +245,4 @@ left_alike s other end w left may = record {
   stopped = left.stopped;
   unremarked = left.unremarked;
   nodes = left.nodes;
-}
-
--- ---- the scenario itself
-
--- a player may turn by the scenario that it runs
-pub may_turn : (s : ScenarioValue) (log : List Record) → IsPlayed s log → MayTurn s log
-may_turn s log played = record {
-  begins = played.begins;
-  steps = played_steps s log played;
-  all = λ over. let on = unfinished log played.going in let wrong : true ≡ false = sym over ∙ on in absurd (cc);
 }

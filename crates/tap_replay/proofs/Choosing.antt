@@ -1,7 +1,7 @@
 -- Which frame is taken next, by what the last step has chosen.
-use Rattle.std.proofs.Common.{◌≡◌, ℕ, zero, suc, ◌+◌, ◌-◌, ◌%◌, Bool, true, false, None, Some, refl, ap, sym, ◌∙◌, arith}
+use Rattle.std.proofs.Common.{◌≡◌, ℕ, zero, suc, ◌+◌, ◌-◌, ◌%◌, ◌<◌, Bool, true, false, None, Some, refl, ap, sym, subst, ◌∙◌, arith}
 use Rattle.std.specs.Prelude.{nat_eq, nat_lt, if◌then◌else◌, option_and_then, is_some}
-use Rattle.std.proofs.lemmas.Bool.{le-ltb, lt-ltb, ne_eqb}
+use Rattle.std.proofs.lemmas.Bool.{le-ltb, lt-ltb, ltb-true, ne_eqb}
 use Rattle.std.proofs.lemmas.Nat.{mod_below}
 use Rattle.tap_scenario.specs.declared.step.Step.{Step}
 use Rattle.tap_scenario.specs.declared.step.Step.TheVariants.{Deliver, Settle, SettleNewest, SettleMixed}
@@ -86,3 +86,27 @@ mixed_due (suc count) number =
 -- the number that it gives next
 pub drawn_next : (seed taken state : ℕ) → state ≡ state_after seed taken → high_half (mixed state) ≡ drawn seed taken
 drawn_next seed taken state is = ap (λ s. high_half (mixed s)) is
+
+-- ---- places that are chosen
+
+place_within : (count place other : ℕ) → place_below count place ≡ Some other → other < count
+place_within count place other is = by_test (nat_lt place count) refl is
+  where
+    by_test : (b : Bool) → nat_lt place count ≡ b → (if b then Some place else None) ≡ Some other → other < count
+    by_test true at found =
+        let same : place ≡ other = cc in
+        subst (λ p. p < count) same (ltb-true place count at)
+    by_test false at found = absurd (cc)
+
+-- a place that is chosen is one of so many
+pub chosen_within : (step : Step) (taken count place : ℕ) → place_chosen step taken count ≡ Some place → place < count
+unfolding place_chosen
+chosen_within (Deliver at) taken count place is = by_test (nat_eq taken 0) is
+  where
+    by_test : (b : Bool) → (if b then place_below count at else None) ≡ Some place → place < count
+    by_test true found = place_within count at place found
+    by_test false found = absurd (cc)
+chosen_within Settle taken count place is = place_within count 0 place is
+chosen_within SettleNewest taken count place is = place_within count _ place is
+chosen_within (SettleMixed seed) taken count place is = place_within count _ place is
+chosen_within other taken count place is = absurd (cc)

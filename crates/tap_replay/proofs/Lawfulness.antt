@@ -1,18 +1,18 @@
 -- The log of a run that has ended is lawful, and a scenario has one such run.
--- Cited above: ended_log
 use Rattle.std.proofs.Common.{◌≡◌, ◌≢◌, inl, inr, true, false, List, [], ◌∷◌, ◌++◌, length, refl, ap, sym, ◌∙◌, append_assoc}
-use Rattle.tap_scenario.specs.Scenario.{CanBePlayed, IsScript, ScenarioValue}
+use Rattle.tap_scenario.specs.Scenario.{IsScript, ScenarioValue}
 use Rattle.tap_log.specs.declared.record.Record.{Record}
 use Rattle.tap_log.specs.declared.record.Record.TheVariants.{Spent as SpentRecord}
 use Rattle.tap_engine.specs.Kinds.{is_finished}
-use Rattle.tap_lawful.specs.Lawful.{IsFinished, IsLawful, IsLogOf, IsSpent, IsWholeLogOf, step_alone}
+use Rattle.tap_lawful.specs.Lawful.{IsFinished, IsLogOf, IsSpent, IsWholeLogOf, step_alone}
+use Rattle.tap_lawful.specs.Runs.{HasNoRootSets, IsLawful}
 use Rattle.tap_lawful.proofs.OneLog.{one_log_holds}
+use Rattle.tap_lawful.proofs.Runs.{lawful_plain}
 use Rattle.tap_replay.specs.LawfulRuns.{AreOneRun, RunsAreLawful}
 use Rattle.tap_replay.specs.Player.{HasEnded}
 use Rattle.tap_replay.specs.declared.end.End.{End}
 use Rattle.tap_replay.specs.declared.end.End.TheVariants.{Done, NoMemory, Spent}
-use Rattle.tap_replay.proofs.Again.{spent_so}
-use Rattle.tap_replay.proofs.Alike.{finished_so}
+use Rattle.tap_replay.proofs.Alike.{finished_so, spent_so}
 
 whole_log : (s : ScenarioValue) (end : End) (log : List Record) → HasEnded s end log → end ≢ NoMemory → IsWholeLogOf s log
 whole_log s Done log ended short = record { played = ended.0; is_played = ended.1; over = inl ended.2 }
@@ -24,15 +24,16 @@ ended_log s Done log ended = record { played = ended.0; is_played = ended.1; end
 ended_log s Spent log ended = record { played = ended.0; is_played = ended.1; ending = inr (inr ended.2) }
 ended_log s NoMemory log ended = record { played = log; is_played = ended; ending = inl refl }
 
-lawful_log : (s : ScenarioValue) (end : End) (log : List Record) → IsScript s → CanBePlayed s → HasEnded s end log → IsLawful log
-lawful_log s end log valid plays ended = record { script = s; valid = valid; plays = plays; run = ended_log s end log ended }
+lawful_log : (s : ScenarioValue) (end : End) (log : List Record) → IsScript s → s.carrier ≡ false → HasNoRootSets s → HasEnded s end log
+    → IsLawful log
+lawful_log s end log valid uncarried plays ended = lawful_plain s log valid uncarried plays (ended_log s end log ended)
 
 -- ---- how the log ends says how the run has ended
 
 done_finished : (s : ScenarioValue) (played log : List Record) → IsFinished s played log → is_finished log ≡ true
 done_finished s played log finished = ap is_finished finished.log_is ∙ finished_so played (length s.steps)
 
-spent_unfinished : (s : ScenarioValue) (played log : List Record) → IsSpent s played log → is_finished log ≡ false
+pub spent_unfinished : (s : ScenarioValue) (played log : List Record) → IsSpent s played log → is_finished log ≡ false
 spent_unfinished s played log spent =
     ap is_finished (spent.log_is ∙ sym (append_assoc played (step_alone spent.group) (SpentRecord s.frames ∷ [])))
     ∙ spent_so (played ++ step_alone spent.group) s.frames

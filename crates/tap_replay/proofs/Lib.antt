@@ -1,8 +1,15 @@
 mod Choosing
 mod Stepping
 pub mod Running
-pub mod Alike
+mod Alike
 mod Turning
-mod Again
-pub mod Lawfulness
-mod RunHeadline
+mod Lawfulness
+mod CarriedChoosing
+mod CarriedGroups
+mod CarriedSteps
+mod CarriedRunning
+mod CarriedTurning
+pub mod CarriedFronts
+mod CarriedLawfulness
+mod CarriedAlike
+pub mod ByCarrier

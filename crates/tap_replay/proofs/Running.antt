@@ -1,14 +1,13 @@
 -- The group that comes next in the run of a scenario is added.
 -- Cited above: unfinished
 use Rattle.std.proofs.Common.{◌≡◌, inl, inr, ℕ, zero, suc, ◌+◌, ◌<◌, ◌≤◌, Bool, true, false, List, [], ◌∷◌, ◌++◌, length, get_or, All, Option, None, Some, Result, Ok, Err, refl, ap, sym, subst, ◌∙◌, arith, append-nil, length-append}
-use Rattle.std.specs.Prelude.{if◌then◌else◌, is_some, nat_eq, nat_le, nat_lt, option_and_then, slice_get, unwrap_or}
+use Rattle.std.specs.Prelude.{if◌then◌else◌, is_some, nat_le, nat_lt, option_and_then, slice_get, unwrap_or}
 use Rattle.std.specs.List.{filter_map, last_or, range_with_len}
 use Rattle.std.specs.Option.{option_map}
-use Rattle.std.proofs.lemmas.Bool.{cases_lt, le-ltb, leb-false, leb-true, lt-ltb, ltb-true}
+use Rattle.std.proofs.lemmas.Bool.{cases_lt, le-ltb, leb-false, leb-true, lt-ltb}
 use Rattle.std.proofs.lemmas.List.Elements.{filter_map-append}
 use Rattle.std.proofs.lemmas.Option.{get_or_from_slice_get, slice_get-get_or, slice_get_past, slice_get_within}
 use Rattle.tap_scenario.specs.declared.step.Step.{Step}
-use Rattle.tap_scenario.specs.declared.step.Step.TheVariants.{Deliver, Settle, SettleNewest, SettleMixed}
 use Rattle.tap_scenario.specs.Scenario.{IsScript, ScenarioValue}
 use Rattle.tap_name.specs.Settings.{SettingsValue}
 use Rattle.tap_log.specs.declared.record.Record.{Record}
@@ -30,7 +29,7 @@ use Rattle.tap_engine.specs.Outcome.{IsNextIndex, MayGoOn, WorldAnswersAs, World
 use Rattle.tap_engine.specs.World.{HasBegun, WorldValue}
 use Rattle.tap_engine.specs.declared.stop.Stop.{Stop}
 use Rattle.tap_engine.specs.declared.stop.Stop.TheVariants.{Ended, NoMemory, Refused, Spent}
-use Rattle.tap_lawful.specs.Due.{chosen_after, chosen_in, number_due, place_below, place_by, place_chosen}
+use Rattle.tap_lawful.specs.Due.{chosen_after, chosen_in, number_due, place_by, place_chosen}
 use Rattle.tap_lawful.specs.Next.{beginning_in, begun_count, group_after, next_group, next_step}
 use Rattle.tap_runs.specs.Groups.{step_group, taken_group}
 use Rattle.tap_lawful.specs.Lawful.{IsPlayed, step_alone}
@@ -44,6 +43,7 @@ use Rattle.tap_replay.specs.Run.{AddsGroup, AddsNext, HasAdded, HasLacked, IsRun
 use Rattle.tap_replay.specs.StepCalls.{MayRun, run_outcome}
 use Rattle.tap_replay.specs.declared.choice.Choice.TheVariants.{Nothing}
 use Rattle.tap_replay.specs.declared.run.Run.{Run}
+use Rattle.tap_replay.proofs.Choosing.{chosen_within}
 use Rattle.tap_replay.proofs.Stepping.{ended_not_short, failed, refused_not_short, spent_not_short, unless_goes, went_not_failed, went_not_short}
 
 -- ---- a world whose run isn't over
@@ -252,28 +252,6 @@ module _ (s : ScenarioValue) (group : List Record) (before after : Run) (on : Wo
 
 -- ---- the frame that is due
 
-place_within : (count place other : ℕ) → place_below count place ≡ Some other → other < count
-place_within count place other is = by_test (nat_lt place count) refl is
-  where
-    by_test : (b : Bool) → nat_lt place count ≡ b → (if b then Some place else None) ≡ Some other → other < count
-    by_test true at found =
-        let same : place ≡ other = cc in
-        subst (λ p. p < count) same (ltb-true place count at)
-    by_test false at found = absurd (cc)
-
--- a place that is chosen is one of so many
-chosen_within : (step : Step) (taken count place : ℕ) → place_chosen step taken count ≡ Some place → place < count
-unfolding place_chosen
-chosen_within (Deliver at) taken count place is = by_test (nat_eq taken 0) is
-  where
-    by_test : (b : Bool) → (if b then place_below count at else None) ≡ Some place → place < count
-    by_test true found = place_within count at place found
-    by_test false found = absurd (cc)
-chosen_within Settle taken count place is = place_within count 0 place is
-chosen_within SettleNewest taken count place is = place_within count _ place is
-chosen_within (SettleMixed seed) taken count place is = place_within count _ place is
-chosen_within other taken count place is = absurd (cc)
-
 by_within_step : (step : Option Step) (taken count place : ℕ)
     → option_and_then (λ s. place_chosen s taken count) step ≡ Some place → place < count
 by_within_step None taken count place is = absurd (cc)
@@ -328,7 +306,7 @@ module _ (s : ScenarioValue) (log : List Record) where
   is_more_step none = ap (λ due. is_some (group_after s log due)) none ∙ some_step (next_step s log)
 
 -- whether there is an element at a place
-some_at : {X : Type 0} (xs : List X) (i : ℕ) → is_some (slice_get xs i) ≡ nat_lt i (length xs)
+pub some_at : {X : Type 0} (xs : List X) (i : ℕ) → is_some (slice_get xs i) ≡ nat_lt i (length xs)
 some_at [] i = sym (le-ltb i 0 (omega arith))
 some_at (x ∷ xs) i = elim (cases_lt i (length (x ∷ xs))) [
   | inl within ↦ ap is_some (slice_get-get_or (x ∷ xs) i x within) ∙ sym (lt-ltb i (length (x ∷ xs)) within)

@@ -1,7 +1,13 @@
 pub mod Choice
+pub mod Ticks
 pub mod StepCalls
 pub mod Turn
+pub mod CarriedTurn
 pub mod Run
+pub mod CarriedChosen
+pub mod CarriedRun
 pub mod Player
+pub mod CarriedPlayer
+pub mod Runs
 pub mod Whole
 pub mod LawfulRuns

@@ -1,20 +1,19 @@
--- What contracts see of a player, and what its turns make of it.
+-- What contracts see of a player, and what its turns make of a run that isn't carried.
 --
 -- Rule: docs/FORMATS.md, "What comes next" and "The ways a run ends".
-use Rattle.std.specs.Prelude.{◌≡◌, ◌≢◌, Bool, true, false, List, [], ◌∷◌, take, Option, None, Some, MatchOption, Result, Ok, Err}
+use Rattle.std.specs.Prelude.{◌≡◌, ◌≢◌, Bool, true, false, List, [], take, Option, None, Some, Result, Ok, Err}
 use Rattle.tap_scenario.specs.Scenario.{ScenarioValue}
 use Rattle.tap_log.specs.declared.record.Record.{Record}
 use Rattle.tap_log.specs.Log.{begun_steps}
-use Rattle.tap_history.specs.Groups.{beginning_of}
-use Rattle.tap_runs.specs.Beginning.{begin_record}
 use Rattle.tap_engine.specs.Kinds.{is_finished}
 use Rattle.tap_engine.specs.World.{HasNodesOfLog, WorldValue}
 use Rattle.tap_engine.specs.declared.stop.Stop.{Stop}
 use Rattle.tap_engine.specs.declared.stop.Stop.TheVariants.{Spent as StopSpent}
 use Rattle.tap_lawful.specs.Next.{beginning_in, begun_count}
 use Rattle.tap_lawful.specs.Lawful.{IsFinished, IsPlayed, IsSpent}
-use Rattle.tap_replay.specs.Run.{IsRunOf, WorldGoesOn}
-use Rattle.tap_replay.specs.Turn.{TurnOutcome, turn_outcome}
+use Rattle.tap_lawful.specs.Runs.{BeginsAsScenario}
+use Rattle.tap_replay.specs.Run.{IsRunOf}
+use Rattle.tap_replay.specs.Turn.{TurnOutcome}
 use Rattle.tap_replay.specs.declared.end.End.{End}
 use Rattle.tap_replay.specs.declared.end.End.TheVariants.{Done, Spent, NoMemory}
 use Rattle.tap_replay.specs.declared.end.Turned.{Turned}
@@ -52,15 +51,12 @@ pub record IsLeft (s : ScenarioValue) (end : End) (w : WorldValue) : Type 0 wher
   pub unremarked : w.added ≡ []
   pub nodes : end ≡ Done → HasNodesOfLog w
 
--- the player has run the scenario so far
-abbrev pub HasPlayed : ScenarioValue → PlayerValue → Type 0
-HasPlayed s p = MatchOption p.over (WorldGoesOn s p.world) (λ end. IsLeft s end p.world)
-
 -- ---- turns
 
--- the log begins as the scenario does, its steps are the scenario's first ones, and they are all of them if it has its end
+-- The whole log begins as the scenario does, with `Carrier` exactly if that is carried, its steps are the scenario's first ones, and they are
+-- all of them if it has its end.
 pub record MayTurn (s : ScenarioValue) (log : List Record) : Type 0 where
-  pub begins : beginning_of log ≡ begin_record (beginning_in s) ∷ []
+  pub begins : BeginsAsScenario s log
   pub steps : begun_steps log ≡ take (begun_count log) s.steps
   pub all : is_finished log ≡ true → begun_steps log ≡ s.steps
 
@@ -81,20 +77,7 @@ pub record TurnsAs (outcome : TurnOutcome) (before : List Record) (given : Turne
   pub log : given ≢ Over NoMemory → after ≡ outcome.log
   pub memory : given ≡ Over NoMemory → after ≡ before
 
--- a run that is over stays as it is; another one takes its turn
-abbrev pub TakesTurn : ScenarioValue → PlayerValue → Turned → PlayerValue → Type 0
-TakesTurn s before given after =
-    MatchOption before.over (TurnsAs (turn_outcome s before.world.log) before.world.log given after.world.log)
-    (λ end. (given ≡ Over end) × (after ≡ before))
-
--- ---- the player itself
-
 -- a run that isn't over goes on from here
 abbrev pub GoesOnUnless : Option End → ScenarioValue → Run → Type 0
 GoesOnUnless None s run = IsRunOf s run
 GoesOnUnless (Some end) s run = IsLeft s end run.world
-
--- the player runs some scenario, from here on or to this end
-pub record IsPlayer (run : Run) (over : Option End) : Type 0 where
-  pub script : ScenarioValue
-  pub run_is : GoesOnUnless over script run

@@ -5,7 +5,8 @@ ghost use Rattle.tap_replay.specs.Choice.{IsChoiceOf, begun_by, one_more_taken};
 use tap_make::Mixer;
 use tap_scenario::Step;
 
-// What the last step has chosen of the frames that are taken next.
+// What the last step has chosen of the frames that are taken next; in a carried run of the packets that arrive next, which stand below for
+// frames.
 #[derive(Drop)]
 pub(crate) enum Choice {
     // Nothing, or nothing more.

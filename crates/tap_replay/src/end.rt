@@ -7,7 +7,7 @@ pub enum End {
     Done,
     /// The next group would have sent more frames than may be sent. The log ends with `Spent`.
     Spent,
-    /// Memory was refused. The log ends with its beginning or a whole group.
+    /// Memory was refused. The log ends with its beginning or a whole group, or in a carried run within one.
     NoMemory,
 }
 

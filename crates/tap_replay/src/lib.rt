@@ -1,14 +1,17 @@
 //! Runs of scenarios: which group of records comes next in a run, and the player that has a world add one after the other.
 #![tactic(auto)]
 
+mod carried_run;
 mod choice;
 mod end;
 mod law;
 mod player;
 mod run;
+mod runs;
 mod steps;
 #[cfg(test)]
 mod tests;
+mod ticks;
 mod whole;
 
 pub use end::{End, Turned};

@@ -1,18 +1,20 @@
-ghost use Rattle.std.specs.Prelude.{◌≡◌, ◌<◌, [], ◌∷◌, ◌++◌, length, None, Ok, is_some};
+ghost use Rattle.std.specs.Prelude.{◌≡◌, ◌<◌, [], ◌∷◌, ◌++◌, length, None, Ok, IfOk, false, is_some};
 ghost use Rattle.tap_lawful.specs.Due.{number_due};
 ghost use Rattle.tap_log.specs.declared.record.Record.TheVariants.{Finished};
-ghost use Rattle.tap_lawful.specs.Next.{next_group};
+ghost use Rattle.tap_engine.specs.World.{HasBegun};
+ghost use Rattle.tap_lawful.specs.Next.{beginning_in, next_group};
 ghost use Rattle.tap_lawful.specs.PlayedLaws.{left_of};
 ghost use Rattle.tap_replay.specs.Player.{GoesOnUnless, IsLeft, TurnsAs, end_of, over_by};
 ghost use Rattle.tap_replay.specs.Run.{AddsNext, IsRunOf};
-ghost use Rattle.tap_scenario.specs.Scenario.{CanBePlayed};
+ghost use Rattle.tap_lawful.specs.Runs.{HasNoRootSets};
 ghost use Rattle.tap_replay.specs.Turn.{turn_outcome};
 
 use crate::choice::Choice;
 use crate::end::{End, Turned};
 use crate::steps::run_step;
+use std::alloc::Global;
 use tap_scenario::Scenario;
-use tap_world::{Stop, World};
+use tap_world::{NoMemory, Stop, World};
 
 // What a player works on: the world, how many steps were begun, and what the last one has chosen.
 #[derive(Drop)]
@@ -23,10 +25,30 @@ pub(crate) struct Run {
 }
 
 impl Run {
+    // A run that isn't carried, before its first group.
+    pub(crate) fn new(alloc: Global, scenario: &Scenario) -> Result<Run, NoMemory>
+        requires { scenario.now.carrier ≡ false }
+        ensures run { IfOk result (IsRunOf scenario.now) }
+        ensures begun { IfOk result (λ run. HasBegun (beginning_in scenario.now) run.world) }
+    {
+        let world = World::new(
+            alloc,
+            &scenario.settings(),
+            scenario.frames(),
+            scenario.members(),
+        )?;
+        Ok(Run {
+            world,
+            begun: 0,
+            choice: Choice::Nothing,
+        })
+    }
+
     // Adds the group that comes next, and if none comes after it, that all steps were run.
     pub(crate) fn turn(&mut self, scenario: &Scenario) -> Turned
         requires run { IsRunOf scenario.now self.old }
-        requires plays { CanBePlayed scenario.now }
+        requires uncarried { scenario.now.carrier ≡ false }
+        requires plays { HasNoRootSets scenario.now }
         ensures turns { TurnsAs (turn_outcome scenario.now self.old.world.log) self.old.world.log result self.new.world.log }
         ensures run { GoesOnUnless (over_by result) scenario.now self.new }
         ensures less { result ≡ Turned.More → left_of scenario.now self.new.world.log < left_of scenario.now self.old.world.log }
@@ -45,7 +67,8 @@ impl Run {
     // Adds the group that comes next, if one does.
     fn add_next(&mut self, scenario: &Scenario) -> Result<(), Stop>
         requires run { IsRunOf scenario.now self.old }
-        requires plays { CanBePlayed scenario.now }
+        requires uncarried { scenario.now.carrier ≡ false }
+        requires plays { HasNoRootSets scenario.now }
         ensures { AddsNext scenario.now self.old result self.new }
     {
         match self.choice.take(self.world.outstanding()) {
@@ -57,7 +80,8 @@ impl Run {
     // Adds the group of the next step, if one is left.
     fn add_step(&mut self, scenario: &Scenario) -> Result<(), Stop>
         requires run { IsRunOf scenario.now self.old }
-        requires plays { CanBePlayed scenario.now }
+        requires uncarried { scenario.now.carrier ≡ false }
+        requires plays { HasNoRootSets scenario.now }
         requires none { number_due self.old.world.log ≡ None }
         ensures { AddsNext scenario.now self.old result self.new }
     {
@@ -95,7 +119,7 @@ impl Run {
 }
 
 // How a run has ended, by the last answer of its world.
-fn end_of(answer: Result<(), Stop>) -> End
+pub(crate) fn end_of(answer: Result<(), Stop>) -> End
     ensures { result ≡ end_of answer }
 {
     match answer {

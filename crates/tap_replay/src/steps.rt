@@ -17,7 +17,7 @@ pub(crate) enum Call {
 
 // The call that adds the group of a step, `None` if the step only chooses what is taken next.
 #[tactic(auto, unfolding(tap_runs::specs::Course::is_choice, tap_engine::specs::Kinds::observes, tap_engine::specs::Kinds::damages, tap_history::specs::StepAsks::actor_of))]
-fn call_of(step: &Step) -> Option<Call>
+pub(crate) fn call_of(step: &Step) -> Option<Call>
     ensures { IsCallOf step.now result }
 {
     match step {

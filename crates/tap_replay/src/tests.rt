@@ -1,10 +1,11 @@
-// A small scenario, turn by turn and whole: it is run to its end, or until too many frames would be sent.
-ghost use Rattle.std.specs.Prelude.{◌≤◌, ◌≡◌, All, IfOk, IsTrue, length, false};
+// Small scenarios, turn by turn and whole: they are run to their end, or until too many frames would be sent.
+ghost use Rattle.std.specs.Prelude.{◌≤◌, ◌≡◌, All, IfOk, IsTrue, length, false, true};
 ghost use Rattle.tap_name.specs.Name.{IsName};
 ghost use Rattle.tap_name.specs.Settings.{AreWithinLimits};
 ghost use Rattle.tap_scenario.specs.Step.{IsStep, is_played};
+ghost use Rattle.tap_engine.specs.World.{whole_log};
 ghost use Rattle.tap_replay.specs.Player.{MayTurn};
-ghost use Rattle.tap_scenario.specs.Scenario.{CanBePlayed};
+ghost use Rattle.tap_lawful.specs.Runs.{HasNoRootSets};
 
 use crate::end::{End, Turned};
 use crate::player::Player;
@@ -51,43 +52,74 @@ fn steps(settings: &Settings) -> Result<[Step; 6], Fail>
     ])
 }
 
-// The scenario of one member with these steps, in which so many frames may be sent.
+// A join over a carrier: its packet is repeated, both are lost, and then none is there to be lost. The settle begins with a tick.
+#[tactic(auto, unfolding(tap_scenario::specs::Step::is_played))]
+fn carried_steps(settings: &Settings) -> Result<[Step; 8], Fail>
+    ensures names { IfOk result (λ steps. All (IsStep settings.now true) steps) }
+    ensures plays { IfOk result (λ steps. All (λ step. IsTrue (is_played step)) steps) }
+{
+    let (newcomer, member) = (name(settings, "01")?, name(settings, "00")?);
+    Ok([
+        Step::Join {
+            name: newcomer,
+            via: member,
+        },
+        Step::Repeat { place: 0 },
+        Step::Lose { place: 1 },
+        Step::Lose { place: 0 },
+        Step::Lose { place: 0 },
+        Step::SettleMixed { seed: 7 },
+        Step::Tick,
+        Step::Table { name: newcomer },
+    ])
+}
+
+// The scenario of one member with these steps, carried or not, in which so many frames may be sent.
 fn scenario_of(
     alloc: Global,
     settings: &Settings,
     frames: u32,
+    carrier: bool,
     steps: &[Step],
 ) -> Result<Scenario, Fail>
     requires limits { AreWithinLimits settings.now }
     requires from { 1 ≤ frames }
     requires to { frames ≤ 1000 }
     requires few { length steps.now ≤ 1000 }
-    requires steps { All (IsStep settings.now false) steps.now }
-    ensures steps { IfOk result (λ s. s.steps ≡ steps.now) }
-    ensures uncarried { IfOk result (λ s. s.carrier ≡ false) }
+    requires steps { All (IsStep settings.now carrier) steps.now }
+    ensures { IfOk result (λ s. s.steps ≡ steps.now) }
 {
     let member = name(settings, "00")?;
     let mut members = List::new(alloc);
     members.push(member)?;
-    Ok(Scenario::of(alloc, settings, frames, false, &members, steps)?)
+    Ok(Scenario::of(alloc, settings, frames, carrier, &members, steps)?)
 }
 
 // The scenario of those steps.
 fn scenario(alloc: Global, frames: u32) -> Result<Scenario, Fail>
     requires from { 1 ≤ frames }
     requires to { frames ≤ 1000 }
-    ensures { IfOk result CanBePlayed }
+    ensures { IfOk result HasNoRootSets }
 {
     let settings = settings()?;
     let steps = steps(&settings)?;
-    scenario_of(alloc, &settings, frames, &steps)
+    scenario_of(alloc, &settings, frames, false, &steps)
+}
+
+// That of the carried ones.
+fn carried_scenario(alloc: Global) -> Result<Scenario, Fail>
+    ensures { IfOk result HasNoRootSets }
+{
+    let settings = settings()?;
+    let steps = carried_steps(&settings)?;
+    scenario_of(alloc, &settings, 1000, true, &steps)
 }
 
 // Whether a further turn answers the same, and adds nothing.
 fn is_over(player: &mut Player, scenario: &Scenario, end: End) -> bool
-    requires script { MayTurn scenario.now player.old.world.log }
-    requires plays { CanBePlayed scenario.now }
-    ensures { MayTurn scenario.now player.new.world.log }
+    requires script { MayTurn scenario.now (whole_log player.old.world) }
+    requires plays { HasNoRootSets scenario.now }
+    ensures { MayTurn scenario.now (whole_log player.new.world) }
 {
     let count = player.log().len();
     player.turn(scenario) == Turned::Over(end) && player.log().len() == count
@@ -95,8 +127,8 @@ fn is_over(player: &mut Player, scenario: &Scenario, end: End) -> bool
 
 // The turns of a player until its run is over: how many they are, how it ends, and how long its log is then.
 fn turns_of(player: &mut Player, scenario: &Scenario) -> Result<(u32, End, usize), Fail>
-    requires script { MayTurn scenario.now player.old.world.log }
-    requires plays { CanBePlayed scenario.now }
+    requires script { MayTurn scenario.now (whole_log player.old.world) }
+    requires plays { HasNoRootSets scenario.now }
 {
     for turns in 1..100 {
         if let Turned::Over(end) = player.turn(scenario) {
@@ -111,7 +143,7 @@ fn turns_of(player: &mut Player, scenario: &Scenario) -> Result<(u32, End, usize
 
 // Those of a player of this scenario.
 fn play(alloc: Global, scenario: &Scenario) -> Result<(u32, End, usize), Fail>
-    requires { CanBePlayed scenario.now }
+    requires { HasNoRootSets scenario.now }
 {
     match Player::new(alloc, scenario) {
         Ok(mut player) => turns_of(&mut player, scenario),
@@ -121,7 +153,7 @@ fn play(alloc: Global, scenario: &Scenario) -> Result<(u32, End, usize), Fail>
 
 // The end of a replay, and how long its log is.
 fn replayed(alloc: Global, scenario: &Scenario) -> Result<(End, usize), Fail>
-    requires { CanBePlayed scenario.now }
+    requires { HasNoRootSets scenario.now }
 {
     let Played { world, end } = replay(alloc, scenario);
     match world {
@@ -145,5 +177,14 @@ fn a_run_is_spent(rt: HostRuntime) -> Result<(), Fail> {
     let scenario = scenario(rt.alloc(), 1)?;
     assert_eq!(rt; play(rt.alloc(), &scenario)?, (5, End::Spent, 8));
     assert_eq!(rt; replayed(rt.alloc(), &scenario)?, (End::Spent, 8));
+    Ok(())
+}
+
+// Twenty-six groups: eight steps, sixteen packets that arrive, and two ticks.
+#[test]
+fn a_carried_scenario_is_played_to_its_end(rt: HostRuntime) -> Result<(), Fail> {
+    let scenario = carried_scenario(rt.alloc())?;
+    assert_eq!(rt; play(rt.alloc(), &scenario)?, (26, End::Done, 68));
+    assert_eq!(rt; replayed(rt.alloc(), &scenario)?, (End::Done, 68));
     Ok(())
 }

@@ -1,8 +1,7 @@
 ghost use Rattle.std.specs.Prelude.{◌≡◌, IfSome};
-ghost use Rattle.tap_engine.specs.World.{HasNodesOfLog};
-ghost use Rattle.tap_headline.specs.Scripts.{RunHasHeadline};
-ghost use Rattle.tap_lawful.specs.Lawful.{IsLawful};
-ghost use Rattle.tap_scenario.specs.Scenario.{CanBePlayed};
+ghost use Rattle.tap_engine.specs.World.{HasNodesOfLog, whole_log};
+ghost use Rattle.tap_headline.specs.Runs.{HasHeadlineBy};
+ghost use Rattle.tap_lawful.specs.Runs.{HasNoRootSets, IsLawful};
 ghost use Rattle.tap_replay.specs.Whole.{IsReplay};
 
 use crate::end::{End, Turned};
@@ -27,18 +26,18 @@ pub struct Played {
 /// `Done` comes exactly if every step was run, and `Spent` exactly if the next group would have sent more frames than may be sent; the
 /// log ends with the record that says so. `NoMemory` comes only if memory was refused. The run takes memory of `alloc`.
 ///
-/// After `Done` the nodes of the world are those of the system that its log has come to; after `Spent` and `NoMemory` it was stopped.
-/// However the run has ended, its log is lawful and has the headline.
+/// After `Done` the nodes of the world are those of the system that its log has come to; after `Spent` it was stopped, and after `NoMemory`,
+/// unless the run is carried. However the run has ended, its log is lawful and has the headline.
 ///
-/// Condition: the scenario isn't carried, and no step is a root set.
+/// Condition: no step is a root set.
 ///
 /// Rule: docs/FORMATS.md, "What comes next".
 pub fn replay(alloc: Global, scenario: &Scenario) -> Played
-    requires { CanBePlayed scenario.now }
+    requires { HasNoRootSets scenario.now }
     ensures left { IsReplay scenario.now result }
     ensures nodes { result.end ≡ End.Done → IfSome result.world HasNodesOfLog }
-    ensures lawful { IfSome result.world (λ world. IsLawful world.log) }
-    ensures headline { IfSome result.world (λ world. RunHasHeadline scenario.now world.log) }
+    ensures lawful { IfSome result.world (λ world. IsLawful (whole_log world)) }
+    ensures headline { IfSome result.world (λ world. HasHeadlineBy scenario.now (whole_log world)) }
 {
     let Ok(mut player) = Player::new(alloc, scenario) else {
         return Played {

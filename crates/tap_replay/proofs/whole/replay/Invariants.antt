@@ -1,10 +1,11 @@
-use Rattle.tap_lawful.specs.PlayedLaws.{left_of}
-use Rattle.tap_replay.specs.Run.{WorldGoesOn}
+use Rattle.tap_engine.specs.World.{whole_log}
+use Rattle.tap_lawful.specs.RunLaws.{left_in}
+use Rattle.tap_replay.specs.Player.{MayTurn}
 use Rattle.tap_replay.proofs.whole.replay.Given as goal
 
--- the run goes on
+-- the player may turn
 abbrev pub invariant-loop-end : goal.invariant-loop-end
-invariant-loop-end l = WorldGoesOn l.scenario l.player.world
+invariant-loop-end l = MayTurn l.scenario (whole_log l.player.world)
 
 abbrev pub decreases-loop-end : goal.decreases-loop-end
-decreases-loop-end l = left_of l.scenario l.player.world.log
+decreases-loop-end l = left_in l.scenario (whole_log l.player.world)

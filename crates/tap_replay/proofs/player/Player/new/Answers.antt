@@ -1,29 +1,25 @@
 use Rattle.std.proofs.Common.{None}
-use Rattle.tap_replay.proofs.Alike.{may_turn}
-use Rattle.tap_replay.proofs.RunHeadline.{run_has_headline}
-use Rattle.tap_replay.proofs.Running.{starts_run}
+use Rattle.tap_replay.proofs.ByCarrier.{has_headline, has_played, may_turn, player_of}
 use Rattle.tap_replay.proofs.player.Player.new.Goals as goal
 
 pub invariant_of-result : goal.invariant_of-result
 invariant_of-result c = record {
   script = c.args.scenario.now;
-  run_is = starts_run c.args.scenario.now _ c.in_ok-world.world c.settings.ensures.value c.frames.ensures.value c.members.ensures.value
-      c.in_ok-world.ensures.begun;
+  valid = c.in_ok-running.ensures.valid;
+  run_is = c.in_ok-running.ensures.run;
 }
 
 pub returns-clause-played : goal.returns-clause-played
-returns-clause-played c =
-    (starts_run c.args.scenario.now _ c.in_ok-world.world c.settings.ensures.value c.frames.ensures.value c.members.ensures.value
-    c.in_ok-world.ensures.begun).goes_on
+returns-clause-played c = has_played c.args.scenario.now None c.in_ok-running.running c.in_ok-running.ensures.run
 
 pub returns-clause-may : goal.returns-clause-may
 returns-clause-may c =
-    may_turn c.args.scenario.now c.in_ok-world.world.log
-    (starts_run c.args.scenario.now _ c.in_ok-world.world c.settings.ensures.value c.frames.ensures.value c.members.ensures.value
-    c.in_ok-world.ensures.begun).goes_on.played
+    let s = c.args.scenario.now in
+    let running = c.in_ok-running.running in
+    may_turn s (player_of running None) (has_played s None running c.in_ok-running.ensures.run) c.in_ok-running.ensures.valid
 
 pub returns-clause-headline : goal.returns-clause-headline
 returns-clause-headline c =
-    run_has_headline c.args.scenario.now None _ c.settings.ensures.valid
-    (starts_run c.args.scenario.now _ c.in_ok-world.world c.settings.ensures.value c.frames.ensures.value c.members.ensures.value
-    c.in_ok-world.ensures.begun)
+    let s = c.args.scenario.now in
+    let running = c.in_ok-running.running in
+    has_headline s (player_of running None) (has_played s None running c.in_ok-running.ensures.run) c.in_ok-running.ensures.valid

@@ -22,7 +22,7 @@ run_step-requires-clause-next c =
 
 pub run_step-requires-clause-played : goal.run_step-requires-clause-played
 run_step-requires-clause-played c =
-    all_at (λ step. IsTrue (is_played step)) c.args.scenario.now.steps c.args.self.now.begun c.step_at-step.result c.requires.plays.steps
+    all_at (λ step. IsTrue (is_played step)) c.args.scenario.now.steps c.args.self.now.begun c.step_at-step.result c.requires.plays
     c.step_at-step.ensures.value
 
 pub run_step-requires-clause-names : goal.run_step-requires-clause-names
@@ -32,7 +32,7 @@ run_step-requires-clause-names c =
     all_at (IsStep s.settings s.carrier) s.steps c.args.self.now.begun c.step_at-step.result c.step_at-step.ensures.valid.steps
     c.step_at-step.ensures.value in
     subst (λ b. IsStep b.settings false c.step_at-step.result) (sym c.requires.run.goes_on.beginning)
-    (subst (λ carrier. IsStep s.settings carrier c.step_at-step.result) c.requires.plays.uncarried is)
+    (subst (λ carrier. IsStep s.settings carrier c.step_at-step.result) c.requires.uncarried is)
 
 pub returns : goal.returns
 returns c =

@@ -1,0 +1,69 @@
+-- The log of a carried run that has ended is lawful, and a scenario has one such run.
+use Rattle.std.proofs.Common.{◌≡◌, ◌≢◌, inl, inr, true, false, List, [], ◌∷◌, ◌++◌, length, take, refl, ap, sym, ◌∙◌, append_assoc}
+use Rattle.tap_scenario.specs.Scenario.{ScenarioValue}
+use Rattle.tap_log.specs.declared.record.Record.{Record}
+use Rattle.tap_log.specs.declared.record.Record.TheVariants.{Spent as SpentRecord}
+use Rattle.tap_engine.specs.Kinds.{is_finished}
+use Rattle.tap_lawful.specs.CarriedRuns.{IsCarriedFinished, IsCarriedLogOf, IsCarriedScript, IsCarriedSpent, IsWholeCarriedLogOf}
+use Rattle.tap_lawful.specs.Runs.{HasNoRootSets, IsLawful}
+use Rattle.tap_lawful.proofs.CarriedOneLog.{one_carried_log_holds}
+use Rattle.tap_lawful.proofs.Runs.{lawful_carried}
+use Rattle.tap_replay.specs.CarriedPlayer.{HasCarriedEnded}
+use Rattle.tap_replay.specs.LawfulRuns.{AreOneRun, CarriedRunsAreLawful}
+use Rattle.tap_replay.specs.declared.end.End.{End}
+use Rattle.tap_replay.specs.declared.end.End.TheVariants.{Done, NoMemory, Spent}
+use Rattle.tap_replay.proofs.Alike.{finished_so, spent_so}
+
+whole_log : (s : ScenarioValue) (end : End) (log : List Record) → HasCarriedEnded s end log → end ≢ NoMemory → IsWholeCarriedLogOf s log
+whole_log s Done log ended short = record { played = ended.0; is_played = ended.1; over = inl ended.2 }
+whole_log s Spent log ended short = record { played = ended.0; is_played = ended.1; over = inr ended.2 }
+whole_log s NoMemory log ended short = absurd (short refl)
+
+pub carried_ended_log : (s : ScenarioValue) (end : End) (log : List Record) → HasCarriedEnded s end log → IsCarriedLogOf s log
+carried_ended_log s Done log ended = record { played = ended.0; is_played = ended.1; ending = inr (inl (inl ended.2)) }
+carried_ended_log s Spent log ended = record { played = ended.0; is_played = ended.1; ending = inr (inl (inr ended.2)) }
+carried_ended_log s NoMemory log ended = record {
+  played = ended.0;
+  is_played = ended.1;
+  ending =
+      elim ended.2 [
+        | inl same ↦ inl same
+        | inr cut ↦ inr (inr cut)
+      ];
+}
+
+lawful_log : (s : ScenarioValue) (end : End) (log : List Record) → IsCarriedScript s → HasNoRootSets s → HasCarriedEnded s end log → IsLawful log
+lawful_log s end log script plays ended = lawful_carried s log script plays (carried_ended_log s end log ended)
+
+-- ---- how the log ends says how the run has ended
+
+pub done_finished : (s : ScenarioValue) (played log : List Record) → IsCarriedFinished s played log → is_finished log ≡ true
+done_finished s played log finished = ap is_finished finished.log_is ∙ finished_so played (length s.steps)
+
+pub spent_unfinished : (s : ScenarioValue) (played log : List Record) → IsCarriedSpent s played log → is_finished log ≡ false
+spent_unfinished s played log spent =
+    ap is_finished (spent.log_is ∙ sym (append_assoc played (take 1 spent.group) (SpentRecord s.frames ∷ [])))
+    ∙ spent_so (played ++ take 1 spent.group) s.frames
+
+apart : (one other : List Record) → one ≡ other → is_finished one ≡ true → is_finished other ≡ false → ⊥
+apart one other same over on = let wrong : true ≡ false = sym over ∙ ap is_finished same ∙ on in cc
+
+same_end : (s : ScenarioValue) (end other : End) (log more : List Record) → HasCarriedEnded s end log → HasCarriedEnded s other more
+    → end ≢ NoMemory → other ≢ NoMemory → log ≡ more → end ≡ other
+same_end s Done Done log more ended ends some enough same = refl
+same_end s Done Spent log more ended ends some enough same =
+    absurd (apart log more same (done_finished s ended.0 log ended.2) (spent_unfinished s ends.0 more ends.2))
+same_end s Spent Done log more ended ends some enough same =
+    absurd (apart more log (sym same) (done_finished s ends.0 more ends.2) (spent_unfinished s ended.0 log ended.2))
+same_end s Spent Spent log more ended ends some enough same = refl
+same_end s NoMemory other log more ended ends some enough same = absurd (some refl)
+same_end s end NoMemory log more ended ends some enough same = absurd (enough refl)
+
+one_run : (s : ScenarioValue) (end other : End) (log more : List Record) → HasCarriedEnded s end log → HasCarriedEnded s other more
+    → end ≢ NoMemory → other ≢ NoMemory → AreOneRun end other log more
+one_run s end other log more ended ends some enough =
+    let same = one_carried_log_holds.whole s log more (whole_log s end log ended some) (whole_log s other more ends enough) in
+    record { end_is = same_end s end other log more ended ends some enough same; log_is = same }
+
+pub carried_runs_are_lawful : CarriedRunsAreLawful
+carried_runs_are_lawful = record { log = carried_ended_log; whole = whole_log; lawful = lawful_log; one = one_run }
