@@ -10,12 +10,10 @@ use Rattle.tap_log.specs.Log.{last_of}
 use Rattle.tap_history.specs.Groups.{ends_log, is_ended, is_spent}
 use Rattle.tap_make.specs.Made.{made}
 use Rattle.tap_engine.specs.Kinds.{finishes_run, is_finished}
-use Rattle.tap_engine.specs.World.{HasNodesOfLog, WorldValue}
-use Rattle.tap_lawful.specs.Lawful.{IsLawful, IsLogOf}
-use Rattle.tap_headline.proofs.LastRecord.{finished_says, spent_says}
-use Rattle.tap_headline.proofs.Scripts.{logs_follow_scripts, logs_have_headline}
-use Rattle.tap_headline.proofs.Printable.{logs_can_be_printed}
-use Rattle.tap_replay.specs.Player.{IsLeft}
+use Rattle.tap_engine.specs.World.{HasNodesOfLog, WorldValue, whole_log}
+use Rattle.tap_lawful.specs.Runs.{IsLawful, IsRunLog}
+use Rattle.tap_headline.proofs.Runs.{run_logs_are_printed, run_logs_end_so, run_logs_follow, run_logs_have_headline}
+use Rattle.tap_replay.specs.Runs.{LeavesWorld as RunLeaves}
 use Rattle.tap_replay.specs.declared.end.End.{End}
 use Rattle.tap_replay.specs.declared.end.End.TheVariants as end
 use Rattle.tap_report.specs.Text.{IsPrintableLog}
@@ -24,17 +22,18 @@ use Rattle.tap_top.specs.declared.status.Status.{Status}
 use Rattle.tap_top.specs.declared.status.Status.TheVariants.{Done, Usage, TooLong, NotScenario, ReadFault, WriteFault, Spent, NoMemory}
 use Rattle.tap_top.specs.Ending.{HasCause, HasCauseOf, HasRun, HasRunAs, HasRunOf, LeavesWorld, log_of}
 use Rattle.tap_top.specs.AskedLog.{HasRunAll, HasRunShort, IsLogAsked, ends_spent}
-use Rattle.tap_bounds_runs.proofs.Enough.{never_spent}
+use Rattle.tap_bounds_runs.proofs.CarriedEnough.{runs_are_never_spent}
 use Rattle.tap_top.specs.Reading.{HasReadFault, HasReadScript, HasReadTooMany}
 use Rattle.tap_top.specs.Status.{status_of_end}
 use Rattle.tap_top.specs.Wanted.{IsNotHad, IsUnread, IsWanted}
 use Rattle.tap_top.proofs.Consumed.{script_read}
+use Rattle.tap_top.proofs.Left.{left_done, left_going, left_log, left_spent}
+use Rattle.tap_replay.proofs.ByCarrier.{left_nodes}
 use Rattle.tap_replay.proofs.Running.{unfinished}
-use Rattle.tap_replay.proofs.Lawfulness.{ended_log}
 
 -- ---- causes
 
-pub run_as : (s : ScenarioValue) (e : End) (world : WorldValue) → IsLeft s e world → HasRunAs s (status_of_end e) world
+pub run_as : (s : ScenarioValue) (e : End) (world : WorldValue) → RunLeaves s e world → HasRunAs s (status_of_end e) world
 run_as s end.Done world left = left
 run_as s end.Spent world left = left
 run_as s end.NoMemory world left = left
@@ -118,7 +117,7 @@ module _ (asked : Asked) (old new : SourceState) where
     | inl never ↦ absurd never
     | inr ran ↦
         let run = ran.run in
-        let ended = run.ended.ended in
+        let ended = left_done run.script ran.left run.ended in
         record {
           script = run.script;
           valid = run.valid;
@@ -126,7 +125,7 @@ module _ (asked : Asked) (old new : SourceState) where
           left = ran.left;
           world_is = ran.is;
           run = run.ended;
-          steps = finished_says run.script ended.0 ran.left.log ended.1 ended.2;
+          steps = run_logs_end_so.finished run.script ended.0 (whole_log ran.left) run.valid ended.1 ended.2;
         }
   ]
 
@@ -135,7 +134,7 @@ module _ (asked : Asked) (old new : SourceState) where
     | inl never ↦ absurd never
     | inr ran ↦
         let run = ran.run in
-        let ended = run.ended.ended in
+        let ended = left_spent run.script ran.left run.ended in
         record {
           script = run.script;
           valid = run.valid;
@@ -143,7 +142,7 @@ module _ (asked : Asked) (old new : SourceState) where
           left = ran.left;
           world_is = ran.is;
           run = run.ended;
-          short = λ alone enough. never_spent run.script ended.0 ran.left.log run.valid alone enough ended.1 ended.2;
+          short = λ alone enough. runs_are_never_spent run.script ended.0 (whole_log ran.left) run.valid alone enough ended.1 ended.2;
         }
   ]
 
@@ -178,7 +177,7 @@ pub done_nodes : (asked : Option Asked) (old new : SourceState) (world : Option 
     → IfSome world HasNodesOfLog
 done_nodes asked old new None cause = tt
 done_nodes None old new (Some world) cause = absurd (refused_so Done cause.2 (λ is. cc) (λ is. cc))
-done_nodes (Some asked) old new (Some world) cause = cause.ended.nodes refl
+done_nodes (Some asked) old new (Some world) cause = left_nodes cause.script.carrier cause.script end.Done world cause.ended refl
 
 pub read_too_many : (asked : Option Asked) (old new : SourceState) (world : Option WorldValue) → HasCause asked old new world TooLong
     → HasReadTooMany old new
@@ -223,56 +222,42 @@ source_untouched (Some asked) old new world status cause = made_untouched asked 
 
 -- ---- the log
 
--- it is that of a run of the scenario that the words ask for
-pub record IsRunLog (asked : Asked) (old new : SourceState) (log : List Record) : Type 0 where
-  pub script : ScenarioValue
-  pub valid : IsScript script
-  pub plays : CanBePlayed script
-  pub wanted : IsWanted asked old new script
-  pub run : IsLogOf script log
-
-run_log : (s : ScenarioValue) (status : Status) (world : WorldValue) → HasRunAs s status world → IsLogOf s world.log
-run_log s Done world left = ended_log s end.Done world.log left.ended
-run_log s Spent world left = ended_log s end.Spent world.log left.ended
-run_log s NoMemory world left = ended_log s end.NoMemory world.log left.ended
+run_log : (s : ScenarioValue) (status : Status) (world : WorldValue) → HasRunAs s status world → IsRunLog s (whole_log world)
+run_log s Done world left = left_log s world end.Done left
+run_log s Spent world left = left_log s world end.Spent left
+run_log s NoMemory world left = left_log s world end.NoMemory left
 run_log s other world left = absurd left
+
+-- what a run leaves has the headline
+run_asked : (asked : Asked) (old new : SourceState) (status : Status) (world : WorldValue) → HasRun asked old new status world
+    → IsLogAsked asked old new (whole_log world)
+run_asked asked old new status world ran =
+    let log = whole_log world in
+    let run = run_log ran.script status world ran.ended in
+    record {
+      script = ran.script;
+      valid = ran.valid;
+      plays = ran.plays;
+      wanted = ran.wanted;
+      run = run;
+      follows = run_logs_follow ran.script log ran.valid run;
+      headline = run_logs_have_headline ran.script log ran.valid run;
+    }
 
 -- there is no log, or it is that of a run
 caused_log : (asked : Asked) (old new : SourceState) (world : Option WorldValue) (status : Status) → HasCauseOf asked old new world status
-    → (log_of world ≡ []) ⊎ IsRunLog asked old new (log_of world)
+    → (log_of world ≡ []) ⊎ IsLogAsked asked old new (log_of world)
 caused_log asked old new None status cause = inl refl
-caused_log asked old new (Some world) status cause =
-    inr (record {
-      script = cause.script;
-      valid = cause.valid;
-      plays = cause.plays;
-      wanted = cause.wanted;
-      run = run_log cause.script status world cause.ended;
-    })
+caused_log asked old new (Some world) status cause = inr (run_asked asked old new status world cause)
 
 abbrev pub IsNoneOrRun : Option Asked → SourceState → SourceState → List Record → Type 0
 IsNoneOrRun asked old new log = (log ≡ []) ⊎ IfSome asked (λ a. IsLogAsked a old new log)
-
-run_asked : (asked : Asked) (old new : SourceState) (log : List Record) → IsRunLog asked old new log → IsLogAsked asked old new log
-run_asked asked old new log run = record {
-  script = run.script;
-  valid = run.valid;
-  plays = run.plays;
-  wanted = run.wanted;
-  run = run.run;
-  follows = logs_follow_scripts run.script log run.run;
-  headline = logs_have_headline run.script log run.valid run.run;
-}
 
 -- the headline
 pub log_asked : (asked : Option Asked) (old new : SourceState) (world : Option WorldValue) (status : Status)
     → HasCause asked old new world status → IsNoneOrRun asked old new (log_of world)
 log_asked None old new world status cause = inl (ap log_of cause.0)
-log_asked (Some asked) old new world status cause =
-    elim (caused_log asked old new world status cause) [
-      | inl none ↦ inl none
-      | inr run ↦ inr (run_asked asked old new (log_of world) run)
-    ]
+log_asked (Some asked) old new world status cause = caused_log asked old new world status cause
 
 -- so it is lawful
 pub log_lawful : (asked : Option Asked) (old new : SourceState) (world : Option WorldValue) (status : Status)
@@ -281,7 +266,7 @@ log_lawful None old new world status cause = inl (ap log_of cause.0)
 log_lawful (Some asked) old new world status cause =
     elim (caused_log asked old new world status cause) [
       | inl none ↦ inl none
-      | inr run ↦ inr (record { script = run.script; valid = run.valid; plays = run.plays; run = run.run })
+      | inr run ↦ inr (record { script = run.script; valid = run.valid; plays = run.plays.steps; run = run.run })
     ]
 
 -- its log can be printed
@@ -292,7 +277,7 @@ log_prints None old new world status cause =
 log_prints (Some asked) old new world status cause =
     elim (caused_log asked old new world status cause) [
       | inl none ↦ subst IsPrintableLog (sym none) (record { begins = tt; each = tt })
-      | inr run ↦ (logs_can_be_printed run.script (log_of world) run.valid run.run).printable
+      | inr run ↦ (run_logs_are_printed.printed run.script (log_of world) run.valid run.run).printable
     ]
 
 -- ---- the last record
@@ -345,21 +330,21 @@ none_last asked old new TooLong not_had = last_none [] refl
 none_last asked old new ReadFault not_had = last_none [] refl
 
 -- that of a run has the end that the status says
-run_last : (s : ScenarioValue) (status : Status) (world : WorldValue) → HasRunAs s status world
-    → HasLast world.log (is_done status) (stopped_spent status)
-run_last s Done world left =
-    let ended = left.ended in
-    last_finished world.log (length s.steps) (finished_says s ended.0 world.log ended.1 ended.2).last
-run_last s Spent world left =
-    let ended = left.ended in
-    last_spent world.log s.frames (spent_says s ended.0 world.log ended.2)
-run_last s NoMemory world left = last_none world.log left.ended.going
-run_last s other world left = absurd left
+run_last : (s : ScenarioValue) (status : Status) (world : WorldValue) → IsScript s → HasRunAs s status world
+    → HasLast (whole_log world) (is_done status) (stopped_spent status)
+run_last s Done world valid left =
+    let ended = left_done s world left in
+    last_finished (whole_log world) (length s.steps) (run_logs_end_so.finished s ended.0 (whole_log world) valid ended.1 ended.2).last
+run_last s Spent world valid left =
+    let ended = left_spent s world left in
+    last_spent (whole_log world) s.frames (run_logs_end_so.spent s ended.0 (whole_log world) ended.1 ended.2)
+run_last s NoMemory world valid left = last_none (whole_log world) (left_going s world valid left)
+run_last s other world valid left = absurd left
 
 caused_last : (asked : Asked) (old new : SourceState) (world : Option WorldValue) (status : Status) → HasCauseOf asked old new world status
     → HasLast (log_of world) (is_done status) (stopped_spent status)
 caused_last asked old new None status cause = none_last asked old new status cause
-caused_last asked old new (Some world) status cause = run_last cause.script status world cause.ended
+caused_last asked old new (Some world) status cause = run_last cause.script status world cause.valid cause.ended
 
 pub log_last : (asked : Option Asked) (old new : SourceState) (world : Option WorldValue) (status : Status) → HasCause asked old new world status
     → HasLast (log_of world) (is_done status) (stopped_spent status)

@@ -2,4 +2,5 @@ mod Flushing
 mod Texts
 mod Turning
 mod Consumed
+mod Left
 mod Causes

@@ -1,5 +1,5 @@
 -- The turns of a player: when it may take one, that its log only grows, and that the log can be printed.
-use Rattle.std.proofs.Common.{◌≡◌, inl, inr, ◌≤◌, List, [], ◌∷◌, ◌++◌, length, take, Option, None, Some, refl, ap, sym, subst, ◌∙◌, arith, append_assoc, append-nil}
+use Rattle.std.proofs.Common.{◌≡◌, inl, inr, ◌≤◌, Bool, true, false, List, [], ◌∷◌, ◌++◌, length, take, Option, None, Some, refl, ap, sym, subst, ◌∙◌, arith, append_assoc, append-nil}
 use Rattle.std.specs.Prelude.{nat_le, MatchOption}
 use Rattle.std.proofs.Math.Seq.{take-length}
 use Rattle.std.proofs.lemmas.Bool.{cases_Bool}
@@ -8,14 +8,17 @@ use Rattle.tap_scenario.specs.Scenario.{IsScript, ScenarioValue}
 use Rattle.tap_log.specs.declared.record.Record.{Record}
 use Rattle.tap_log.specs.declared.record.Record.TheVariants.{Spent as SpentRecord, Finished}
 use Rattle.tap_log.specs.Counts.{sent_count}
+use Rattle.tap_engine.specs.World.{whole_log}
+use Rattle.tap_lawful.specs.CarriedNext.{carried_next_group}
 use Rattle.tap_lawful.specs.Next.{next_group}
-use Rattle.tap_lawful.specs.Lawful.{IsLogOf, step_alone}
+use Rattle.tap_lawful.specs.Lawful.{step_alone}
 use Rattle.tap_headline.specs.Printable.{CanBePrinted}
-use Rattle.tap_headline.proofs.Printable.{logs_can_be_printed}
-use Rattle.tap_replay.proofs.Alike.{may_turn}
-use Rattle.tap_replay.proofs.Lawfulness.{ended_log}
-use Rattle.tap_replay.specs.Player.{HasPlayed, IsLeft, MayTurn, PlayerValue, TakesTurn, TurnsAs}
-use Rattle.tap_replay.specs.Run.{WorldGoesOn}
+use Rattle.tap_headline.proofs.Runs.{run_logs_are_printed}
+use Rattle.tap_replay.proofs.ByCarrier.{player_log}
+use Rattle.tap_replay.specs.CarriedPlayer.{CarriedTurnsAs, StaysOrIsCut}
+use Rattle.tap_replay.specs.CarriedTurn.{carried_outcome_by, carried_turn_outcome, unless_carried_spent}
+use Rattle.tap_replay.specs.Player.{PlayerValue, TurnsAs}
+use Rattle.tap_replay.specs.Runs.{GoesOnBy, HasPlayed, IsLeftBy, LeavesWorld, TakesTurn, TurnsBy}
 use Rattle.tap_replay.specs.Turn.{outcome_by, turn_outcome, unless_finished, unless_spent}
 use Rattle.tap_replay.specs.declared.end.End.{End}
 use Rattle.tap_replay.specs.declared.end.End.TheVariants.{Done, Spent, NoMemory}
@@ -24,29 +27,13 @@ use Rattle.tap_replay.specs.declared.end.Turned.TheVariants.{More, Over}
 
 -- ---- how far a run has come
 
--- a run that isn't over goes on, and one that is over has ended
-pub goes_on : (s : ScenarioValue) (p : PlayerValue) → HasPlayed s p → p.over ≡ None → WorldGoesOn s p.world
-goes_on s p played none =
-    subst (λ over. MatchOption over (WorldGoesOn s p.world) (λ end. IsLeft s end p.world)) none played
+pub is_left : (s : ScenarioValue) (p : PlayerValue) (end : End) → HasPlayed s p → p.over ≡ Some end → LeavesWorld s end p.world
+is_left s p end played over =
+    subst (λ o. MatchOption o (GoesOnBy s.carrier s p.world) (λ e. IsLeftBy s.carrier s e p.world)) over played
 
-pub is_left : (s : ScenarioValue) (p : PlayerValue) (end : End) → HasPlayed s p → p.over ≡ Some end → IsLeft s end p.world
-is_left s p end played over = subst (λ o. MatchOption o (WorldGoesOn s p.world) (λ e. IsLeft s e p.world)) over played
-
--- the log of a run so far
-pub player_log : (s : ScenarioValue) (p : PlayerValue) → HasPlayed s p → IsLogOf s p.world.log
-player_log s p played = by_over p.over refl
-  where
-    by_over : (over : Option End) → p.over ≡ over → IsLogOf s p.world.log
-    by_over None is = let going = goes_on s p played is in record { played = p.world.log; is_played = going.played; ending = inl refl }
-    by_over (Some end) is = ended_log s end p.world.log (is_left s p end played is).ended
-
-pub player_prints : (s : ScenarioValue) (p : PlayerValue) → IsScript s → HasPlayed s p → CanBePrinted p.world.log
-player_prints s p valid played = logs_can_be_printed s p.world.log valid (player_log s p played)
-
--- ---- when a turn may be taken
-
-pub player_may_turn : (s : ScenarioValue) (p : PlayerValue) → HasPlayed s p → p.over ≡ None → MayTurn s p.world.log
-player_may_turn s p played none = may_turn s p.world.log (goes_on s p played none).played
+-- the log of a run so far can be printed
+pub player_prints : (s : ScenarioValue) (p : PlayerValue) → IsScript s → HasPlayed s p → CanBePrinted (whole_log p.world)
+player_prints s p valid played = run_logs_are_printed.printed s (whole_log p.world) valid (player_log s p played)
 
 -- ---- the log only grows
 
@@ -86,12 +73,48 @@ module _ (s : ScenarioValue) (log after : List Record) where
   turned_front (Over Spent) turns = outcome_front (turns.log (λ is. cc))
   turned_front (Over NoMemory) turns = ap (take (length log)) (turns.memory refl) ∙ take-length log
 
+-- the same of a carried run
+
+carried_group_grows : (s : ScenarioValue) (log group : List Record) → Grows log (unless_carried_spent s log group).log
+carried_group_grows s log group =
+    elim (cases_Bool (nat_le (sent_count (log ++ group)) s.frames)) [
+      | inl within ↦
+          let longer = finished_grows s (log ++ group) (carried_next_group s (log ++ group)) in
+          rw within (record { more = group ++ longer.more; is = longer.is ∙ append_assoc log group longer.more })
+      | inr over ↦ rw over (record { more = take 1 group ++ SpentRecord s.frames ∷ []; is = refl })
+    ]
+
+carried_outcome_grows : (s : ScenarioValue) (log : List Record) (next : Option (List Record)) → Grows log (carried_outcome_by s log next).log
+carried_outcome_grows s log (Some group) = carried_group_grows s log group
+carried_outcome_grows s log None = finished_grows s log None
+
+module _ (s : ScenarioValue) (log after : List Record) where
+  carried_front : after ≡ (carried_turn_outcome s log).log → take (length log) after ≡ log
+  carried_front is =
+      ap (take (length log)) is
+      ∙ grows_front log (carried_turn_outcome s log).log (carried_outcome_grows s log (carried_next_group s log))
+
+  cut_front : StaysOrIsCut s log after → take (length log) after ≡ log
+  cut_front (inl same) = ap (take (length log)) same ∙ take-length log
+  cut_front (inr cut) =
+      ap (take (length log)) cut.log_is ∙ grows_front log (log ++ take cut.kept cut.group) (record { more = take cut.kept cut.group; is = refl })
+
+  carried_turned : (given : Turned) → CarriedTurnsAs s log given after → take (length log) after ≡ log
+  carried_turned More turns = carried_front (turns.log (λ is. cc))
+  carried_turned (Over Done) turns = carried_front (turns.log (λ is. cc))
+  carried_turned (Over Spent) turns = carried_front (turns.log (λ is. cc))
+  carried_turned (Over NoMemory) turns = cut_front (turns.memory refl)
+
+  turned_by : (carried : Bool) (given : Turned) → TurnsBy carried s log given after → take (length log) after ≡ log
+  turned_by true given turns = carried_turned given turns
+  turned_by false given turns = turned_front s log after given turns
+
 -- after a turn the log begins with the one before it
 pub turn_front : (s : ScenarioValue) (before : PlayerValue) (given : Turned) (after : PlayerValue) → TakesTurn s before given after
-    → before.over ≡ None → take (length before.world.log) after.world.log ≡ before.world.log
+    → before.over ≡ None → take (length (whole_log before.world)) (whole_log after.world) ≡ whole_log before.world
 turn_front s before given after turns none =
-    turned_front s before.world.log after.world.log given
-    (subst (λ over. MatchOption over (TurnsAs (turn_outcome s before.world.log) before.world.log given after.world.log)
+    turned_by s (whole_log before.world) (whole_log after.world) s.carrier given
+    (subst (λ over. MatchOption over (TurnsBy s.carrier s (whole_log before.world) given (whole_log after.world))
     (λ end. (given ≡ Over end) × (after ≡ before))) none turns)
 
 -- so it isn't shorter

@@ -6,12 +6,12 @@ use Rattle.tap_scenario.specs.Scenario.{CanBePlayed, IsScript, ScenarioValue}
 use Rattle.tap_log.specs.declared.record.Record.{Record}
 use Rattle.tap_log.specs.Log.{last_of}
 use Rattle.tap_history.specs.Groups.{is_spent}
-use Rattle.tap_engine.specs.World.{WorldValue}
-use Rattle.tap_lawful.specs.Lawful.{IsLogOf}
+use Rattle.tap_engine.specs.World.{WorldValue, whole_log}
+use Rattle.tap_lawful.specs.Runs.{IsRunLog}
 use Rattle.tap_headline.specs.LastRecord.{HasAllSteps}
-use Rattle.tap_headline.specs.Scripts.{FollowsScript, RunHasHeadline}
+use Rattle.tap_headline.specs.Runs.{FollowsScenario, HasHeadlineBy}
 use Rattle.tap_bounds_runs.specs.Enough.{AsksForJoinsAlone, HasEnoughFrames}
-use Rattle.tap_replay.specs.Player.{IsLeft}
+use Rattle.tap_replay.specs.Runs.{LeavesWorld}
 use Rattle.tap_replay.specs.declared.end.End.TheVariants.{Done, Spent}
 use Rattle.tap_words.specs.declared.asked.Asked.{Asked}
 use Rattle.tap_top.specs.Wanted.{IsWanted}
@@ -24,9 +24,9 @@ pub record IsLogAsked (asked : Asked) (old new : SourceState) (log : List Record
   pub valid : IsScript script
   pub plays : CanBePlayed script
   pub wanted : IsWanted asked old new script
-  pub run : IsLogOf script log
-  pub follows : FollowsScript script log
-  pub headline : RunHasHeadline script log
+  pub run : IsRunLog script log
+  pub follows : FollowsScenario script log
+  pub headline : HasHeadlineBy script log
 
 -- The scenario that the words ask for was had, and every step of it was run: its run has left a world, which it has not stopped.
 pub record HasRunAll (asked : Asked) (old new : SourceState) (world : Option WorldValue) : Type 0 where
@@ -35,8 +35,8 @@ pub record HasRunAll (asked : Asked) (old new : SourceState) (world : Option Wor
   pub wanted : IsWanted asked old new script
   pub left : WorldValue
   pub world_is : world ≡ Some left
-  pub run : IsLeft script Done left
-  pub steps : HasAllSteps script left.log
+  pub run : LeavesWorld script Done left
+  pub steps : HasAllSteps script (whole_log left)
 
 -- The scenario that the words ask for was had, and its run has left a world, which it has stopped, since more frames would have been sent than
 -- may be. So the scenario starts more than joins, or its limit isn't enough for as many joins among as many names.
@@ -46,7 +46,7 @@ pub record HasRunShort (asked : Asked) (old new : SourceState) (world : Option W
   pub wanted : IsWanted asked old new script
   pub left : WorldValue
   pub world_is : world ≡ Some left
-  pub run : IsLeft script Spent left
+  pub run : LeavesWorld script Spent left
   pub short : AsksForJoinsAlone script → HasEnoughFrames script → ⊥
 
 -- the log ends with `Spent`

@@ -5,8 +5,8 @@ use Rattle.tap_io.specs.Sink.{SinkState}
 use Rattle.tap_io.specs.Source.{SourceState}
 use Rattle.tap_scenario.specs.Scenario.{CanBePlayed, IsScript, ScenarioValue}
 use Rattle.tap_log.specs.declared.record.Record.{Record}
-use Rattle.tap_engine.specs.World.{WorldValue}
-use Rattle.tap_replay.specs.Player.{IsLeft}
+use Rattle.tap_engine.specs.World.{WorldValue, whole_log}
+use Rattle.tap_replay.specs.Runs.{LeavesWorld as RunLeaves}
 use Rattle.tap_replay.specs.declared.end.End.TheVariants as end
 use Rattle.tap_report.specs.Text.{text_of_log}
 use Rattle.tap_report.specs.Written.{AppendsAll, FirstFails}
@@ -22,10 +22,10 @@ use Rattle.tap_top.specs.Wanted.{IsNotHad, IsWanted, mode_of}
 
 -- ---- the world
 
--- the log of a world, if there is one
+-- the whole log of a world, if there is one
 abbrev pub log_of : Option WorldValue → List Record
 log_of None = []
-log_of (Some world) = world.log
+log_of (Some world) = whole_log world
 
 -- whether a world is left: if a run has ended, and else none; want of memory may come with one or without
 abbrev pub LeavesWorld : Status → Option WorldValue → Type 0
@@ -38,9 +38,9 @@ LeavesWorld other world = world ≡ None
 
 -- the run of a scenario ends with this status, writing aside, and leaves this world
 abbrev pub HasRunAs : ScenarioValue → Status → WorldValue → Type 0
-HasRunAs script Done world = IsLeft script end.Done world
-HasRunAs script Spent world = IsLeft script end.Spent world
-HasRunAs script NoMemory world = IsLeft script end.NoMemory world
+HasRunAs script Done world = RunLeaves script end.Done world
+HasRunAs script Spent world = RunLeaves script end.Spent world
+HasRunAs script NoMemory world = RunLeaves script end.NoMemory world
 HasRunAs script other world = ⊥
 
 -- the same; no world is left only if memory was refused before the first record

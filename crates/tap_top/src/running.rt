@@ -1,7 +1,9 @@
 ghost use Rattle.std.specs.Prelude.{◌≡◌, ◌<◌, ◌≤◌, None, length, fold, take};
 ghost use Rattle.tap_io.specs.Sink.{SinkState};
-ghost use Rattle.tap_lawful.specs.PlayedLaws.{left_of};
-ghost use Rattle.tap_replay.specs.Player.{HasPlayed, IsLeft, over_by};
+ghost use Rattle.tap_engine.specs.World.{whole_log};
+ghost use Rattle.tap_replay.specs.Player.{over_by};
+ghost use Rattle.tap_lawful.specs.RunLaws.{left_in};
+ghost use Rattle.tap_replay.specs.Runs.{HasPlayed, LeavesWorld};
 ghost use Rattle.tap_report.specs.Reporter.{Reports, most_records, settings_after};
 ghost use Rattle.tap_report.specs.Text.{IsPrintableLog};
 ghost use Rattle.tap_report.specs.declared.mode.Mode.{Mode as ReportMode};
@@ -40,12 +42,12 @@ pub(crate) fn play<K: Sink>(
     requires plays { CanBePlayed scenario.now }
     requires played { HasPlayed scenario.now player.old }
     requires begun { player.old.over ≡ None }
-    requires put { reporter.old.records ≡ length player.old.world.log }
-    requires settings { reporter.old.settings ≡ fold settings_after None player.old.world.log }
-    ensures left { IsLeft scenario.now result player.new.world }
+    requires put { reporter.old.records ≡ length (whole_log player.old.world) }
+    requires settings { reporter.old.settings ≡ fold settings_after None (whole_log player.old.world) }
+    ensures left { LeavesWorld scenario.now result player.new.world }
     ensures reports { (mode : ReportMode) (first : SinkState)
-        → Reports mode player.old.world.log first (K.state sink.old) reporter.old
-        → Reports mode player.new.world.log first (K.state sink.new) reporter.new }
+        → Reports mode (whole_log player.old.world) first (K.state sink.old) reporter.old
+        → Reports mode (whole_log player.new.world) first (K.state sink.new) reporter.new }
 {
     loop {
         if let Turned::Over(end) = turn_and_put(player, scenario, reporter, sink) {
@@ -65,16 +67,16 @@ fn turn_and_put<K: Sink>(
     requires plays { CanBePlayed scenario.now }
     requires played { HasPlayed scenario.now player.old }
     requires begun { player.old.over ≡ None }
-    requires put { reporter.old.records ≡ length player.old.world.log }
-    requires settings { reporter.old.settings ≡ fold settings_after None player.old.world.log }
+    requires put { reporter.old.records ≡ length (whole_log player.old.world) }
+    requires settings { reporter.old.settings ≡ fold settings_after None (whole_log player.old.world) }
     ensures played { HasPlayed scenario.now player.new }
     ensures over { player.new.over ≡ over_by result }
-    ensures put { reporter.new.records ≡ length player.new.world.log }
-    ensures settings { reporter.new.settings ≡ fold settings_after None player.new.world.log }
+    ensures put { reporter.new.records ≡ length (whole_log player.new.world) }
+    ensures settings { reporter.new.settings ≡ fold settings_after None (whole_log player.new.world) }
     ensures reports { (mode : ReportMode) (first : SinkState)
-        → Reports mode player.old.world.log first (K.state sink.old) reporter.old
-        → Reports mode player.new.world.log first (K.state sink.new) reporter.new }
-    ensures less { result ≡ Turned.More → left_of scenario.now player.new.world.log < left_of scenario.now player.old.world.log }
+        → Reports mode (whole_log player.old.world) first (K.state sink.old) reporter.old
+        → Reports mode (whole_log player.new.world) first (K.state sink.new) reporter.new }
+    ensures less { result ≡ Turned.More → left_in scenario.now (whole_log player.new.world) < left_in scenario.now (whole_log player.old.world) }
 {
     let from = player.log().len();
     let turned = player.turn(scenario);

@@ -23,7 +23,7 @@ pub enum Status {
     ReadFault,
     /// A write failed.
     WriteFault,
-    /// The next step of a node would have sent more frames than may be sent, and all text was written.
+    /// The next group would have sent more frames than may be sent, and all text was written.
     Spent,
     /// Memory was refused.
     NoMemory,

@@ -1,10 +1,10 @@
 ghost use Rattle.std.specs.Prelude.{◌≡◌, ◌≢◌, ◌↔◌, ◌⊎◌, ◌+◌, [], IfSome, IsSome, IsTrue, MatchOption, None, map};
 ghost use Rattle.std.specs.String.{string_bytes};
 ghost use Rattle.tap_engine.specs.Kinds.{is_finished};
-ghost use Rattle.tap_engine.specs.World.{HasNodesOfLog};
+ghost use Rattle.tap_engine.specs.World.{HasNodesOfLog, whole_log};
 ghost use Rattle.tap_io.specs.Faults.{HasRisen};
-ghost use Rattle.tap_lawful.specs.Lawful.{IsLawful};
-ghost use Rattle.tap_replay.specs.Player.{HasPlayed};
+ghost use Rattle.tap_lawful.specs.Runs.{IsLawful};
+ghost use Rattle.tap_replay.specs.Runs.{HasPlayed};
 ghost use Rattle.tap_report.specs.Text.{IsPrintableLog};
 ghost use Rattle.tap_report.specs.declared.mode.Mode.{Mode as ReportMode};
 ghost use Rattle.tap_scenario.specs.Scenario.{CanBePlayed, IsScript};
@@ -66,7 +66,7 @@ fn print_run<K: Sink>(
     requires begun { player.old.over ≡ None }
     ensures run { HasRunAs scenario.now result.before player.new.world }
     ensures written { HasWritten (K.state sink.old) (K.state sink.new)
-        (text_of_run mode player.new.world.log result.before) result.before result.status }
+        (text_of_run mode (whole_log player.new.world) result.before) result.before result.status }
 {
     let mut text = BufferedSink::new(sink, room);
     let mut reporter = Reporter::new(mode);
@@ -202,8 +202,7 @@ pub fn run<S: Source, K: Sink>(
     ensures world { LeavesWorld result.before result.world }
     ensures nodes { result.before ≡ Status.Done → IfSome result.world HasNodesOfLog }
 
-    // Its log can be printed in each mode. If there is one, it is lawful: that of a run of a scenario which isn't carried, and of which each
-    // step is played.
+    // Its log can be printed in each mode. If there is one, it is lawful: that of a run of a scenario of which each step is played.
     ensures printable { IsPrintableLog (log_of result.world) }
     ensures lawful { (log_of result.world ≡ []) ⊎ IsLawful (log_of result.world) }
 

@@ -1,8 +1,9 @@
 use Rattle.std.proofs.Common.{◌≡◌, None, length}
 use Rattle.std.specs.Prelude.{fold}
 use Rattle.tap_io.specs.Sink.{SinkState}
-use Rattle.tap_lawful.specs.PlayedLaws.{left_of}
-use Rattle.tap_replay.specs.Player.{HasPlayed}
+use Rattle.tap_engine.specs.World.{whole_log}
+use Rattle.tap_lawful.specs.RunLaws.{left_in}
+use Rattle.tap_replay.specs.Runs.{HasPlayed}
 use Rattle.tap_report.specs.Reporter.{Reports, settings_after}
 use Rattle.tap_report.specs.declared.mode.Mode.{Mode}
 use Rattle.tap_top.proofs.running.play.Given as goal
@@ -12,12 +13,12 @@ abbrev pub invariant-loop-end : goal.invariant-loop-end
 invariant-loop-end g l = record {
   played : HasPlayed l.scenario l.player;
   begun : l.player.over ≡ None;
-  put : l.reporter.records ≡ length l.player.world.log;
-  settings : l.reporter.settings ≡ fold settings_after None l.player.world.log;
+  put : l.reporter.records ≡ length (whole_log l.player.world);
+  settings : l.reporter.settings ≡ fold settings_after None (whole_log l.player.world);
   reports : (mode : Mode) (first : SinkState)
-      → Reports mode l.fn.player.world.log first (g.K.Sink.state l.fn.sink) l.fn.reporter
-      → Reports mode l.player.world.log first (g.K.Sink.state l.sink) l.reporter;
+      → Reports mode (whole_log l.fn.player.world) first (g.K.Sink.state l.fn.sink) l.fn.reporter
+      → Reports mode (whole_log l.player.world) first (g.K.Sink.state l.sink) l.reporter;
 }
 
 abbrev pub decreases-loop-end : goal.decreases-loop-end
-decreases-loop-end g l = left_of l.scenario l.player.world.log
+decreases-loop-end g l = left_in l.scenario (whole_log l.player.world)

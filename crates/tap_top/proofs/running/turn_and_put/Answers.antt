@@ -1,12 +1,14 @@
 use Rattle.std.proofs.Common.{◌≡◌, ◌∙◌, List, None, ap, subst, sym, take}
 use Rattle.std.specs.Prelude.{fold}
+use Rattle.tap_engine.specs.World.{whole_log}
 use Rattle.tap_log.specs.declared.record.Record.{Record}
 use Rattle.tap_report.specs.Reporter.{Reports, settings_after}
-use Rattle.tap_top.proofs.Turning.{front_within, player_may_turn, player_prints, turn_front}
+use Rattle.tap_replay.proofs.ByCarrier.{may_turn}
+use Rattle.tap_top.proofs.Turning.{front_within, player_prints, turn_front}
 use Rattle.tap_top.proofs.running.turn_and_put.Goals as goal
 
 pub turn-turned-requires-clause-script : goal.turn-turned-requires-clause-script
-turn-turned-requires-clause-script g c = player_may_turn c.args.scenario.now c.args.player.now c.requires.played c.requires.begun
+turn-turned-requires-clause-script g c = may_turn c.args.scenario.now c.args.player.now c.requires.played c.requires.valid
 
 pub put_from-requires-clause-printable : goal.put_from-requires-clause-printable
 put_from-requires-clause-printable g c =
@@ -20,8 +22,8 @@ put_from-requires-clause-few g c =
 
 pub put_from-requires-clause-from : goal.put_from-requires-clause-from
 put_from-requires-clause-from g c =
-    let old = c.args.player.now.world.log in
-    let new = c.turn-turned.new.self.world.log in
+    let old = whole_log c.args.player.now.world in
+    let new = whole_log c.turn-turned.new.self.world in
     let front = turn_front c.args.scenario.now c.args.player.now c.turn-turned.result c.turn-turned.new.self c.turn-turned.ensures.turns
     c.requires.begun in
     let within = front_within old new front in
@@ -29,7 +31,7 @@ put_from-requires-clause-from g c =
 
 pub put_from-requires-clause-settings : goal.put_from-requires-clause-settings
 put_from-requires-clause-settings g c =
-    let old = c.args.player.now.world.log in
+    let old = whole_log c.args.player.now.world in
     let front = turn_front c.args.scenario.now c.args.player.now c.turn-turned.result c.turn-turned.new.self c.turn-turned.ensures.turns
     c.requires.begun in
     let same : take c.len-from.result c.log-2.result.now.records ≡ old = rw (c.log-2.ensures, c.len-from.ensures, c.log.ensures) front in
@@ -37,7 +39,7 @@ put_from-requires-clause-settings g c =
 
 pub returns-clause-reports : goal.returns-clause-reports
 returns-clause-reports g c = λ mode first reports.
-    let old = c.args.player.now.world.log in
+    let old = whole_log c.args.player.now.world in
     let front = turn_front c.args.scenario.now c.args.player.now c.turn-turned.result c.turn-turned.new.self c.turn-turned.ensures.turns
     c.requires.begun in
     let same : take c.len-from.result c.log-2.result.now.records ≡ old = rw (c.log-2.ensures, c.len-from.ensures, c.log.ensures) front in

@@ -1,4 +1,5 @@
 use Rattle.std.proofs.Common.{◌≡◌, [], refl, sym, ◌∙◌}
+use Rattle.tap_engine.specs.World.{whole_log}
 use Rattle.tap_io.specs.BufferedSink.{buffered_state, state_over}
 use Rattle.tap_report.specs.Reporter.{Reports}
 use Rattle.tap_report.proofs.ReportsLemmas.{Reports-finish, Reports-new}
@@ -24,7 +25,7 @@ returns-clause-run g c =
 pub returns-clause-written : goal.returns-clause-written
 returns-clause-written g c =
     let mode = c.args.mode in
-    let log = c.play.new.player.world.log in
+    let log = whole_log c.play.new.player.world in
     let before = c.of-before.result in
     let first = g.K.Sink.state c.args.sink.now in
     let name = c.new-text.result.inner.ghost_name in

@@ -12,6 +12,11 @@ accepted : (words : Option Asked) (asked : Asked) → ◌≡◌ {A = Result Aske
 accepted None asked is = absurd (cc)
 accepted (Some other) asked is = let same : asked ≡ other = cc in ap Some (sym same)
 
+pub returns-in-Ok-clause-cause : goal.returns-in-Ok-clause-cause
+returns-in-Ok-clause-cause g c =
+    let is = accepted (asked_by (map string_bytes c.args.words.now)) c.in-Ok.asked (c.in-Ok.ensures.value (λ h. cc)) in
+    rw is c.run_asked.ensures.cause
+
 pub returns-in-Ok-clause-written : goal.returns-in-Ok-clause-written
 returns-in-Ok-clause-written g c =
     let is = accepted (asked_by (map string_bytes c.args.words.now)) c.in-Ok.asked (c.in-Ok.ensures.value (λ h. cc)) in
