@@ -6,6 +6,8 @@
 #[cfg(test)]
 mod accepted;
 #[cfg(test)]
+mod carried;
+#[cfg(test)]
 mod counted;
 #[cfg(test)]
 mod devices;

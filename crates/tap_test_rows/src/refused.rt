@@ -6,7 +6,7 @@ use tap_top::Status;
 // A line of the scenario, counted from 0, what stands there in its stead, the fault, and what is printed of it.
 type Refused = (usize, &'static str, Fault, &'static str);
 
-const REFUSED: [Refused; 17] = [
+const REFUSED: [Refused; 18] = [
     (0, "base = 17", Fault::BadValue(Key::Base), "bad value base"),
     (0, "base = 4\nbase = 4", Fault::NotToml, "not TOML"),
     (0, "", Fault::BadKey(Key::Base), "bad key base"),
@@ -30,7 +30,7 @@ const REFUSED: [Refused; 17] = [
     ),
     (
         4,
-        "steps = [\"walk 123 from 000\"]\ncarrier = true",
+        "steps = [\"walk 123 from 000\"]\ncarrier = 1",
         Fault::BadValue(Key::Carrier),
         "bad value carrier",
     ),
@@ -76,6 +76,12 @@ const REFUSED: [Refused; 17] = [
         "steps = [\"publish 123 at 301\", \"settle\", \"pointer 233\"]",
         Fault::BadStep(3),
         "bad step 3",
+    ),
+    (
+        4,
+        "steps = [\"tick\", \"garble 0 9 2\"]\ncarrier = true",
+        Fault::BadStep(2),
+        "bad step 2",
     ),
     (
         4,

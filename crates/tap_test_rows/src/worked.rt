@@ -313,8 +313,9 @@ done 2
     },
 ];
 
-/// Objects and their servers, departures and casts: what is printed is the same in whichever order frames are taken.
-pub(crate) const ALIKE: [Worked; 6] = [
+/// Objects and their servers, departures, casts and a carrier: what is printed is the same in whichever order frames are taken, or
+/// packets arrive.
+pub(crate) const ALIKE: [Worked; 7] = [
     Worked {
         shows: "a newcomer becomes a root",
         words: &["--brief"],
@@ -428,6 +429,27 @@ reached 1 000
 closed 1
 core 100
 done 4
+",
+    },
+    Worked {
+        shows: "a newcomer over a carrier takes over the pointer",
+        words: &["--brief"],
+        text: "base = 4
+digits = 3
+width = 2
+carrier = true
+members = [\"000\", \"012\", \"230\", \"233\", \"301\"]
+steps = [\"publish 123 at 301\", \"settle\", \"join 120 via 012\", \"repeat 0\", \"deliver 0\", \"lose 1\", \"settle\", \"pointers 233\", \"pointers 120\", \"walk 123 from 301\"]
+",
+        printed: "begin base 4 digits 3 width 2 frames 200000
+carrier
+published 123 at 301
+core 120
+pointers 233 count 0
+pointers 120 count 1
+pointer 123 301
+walked 123 from 301 path 301 120 root 120 hops 1
+done 10
 ",
     },
 ];
@@ -548,8 +570,8 @@ done 8
     },
 ];
 
-// Whether a run ends so and prints just this.
-fn runs_as_worked(alloc: Global, worked: &Worked) -> Result<bool, Fail> {
+/// Whether a run ends so and prints just this.
+pub(crate) fn runs_as_worked(alloc: Global, worked: &Worked) -> Result<bool, Fail> {
     let outcome = run_words(alloc, worked.words, worked.text.as_bytes(), &[], &[])?;
     Ok(outcome.status == Status::Done && outcome.written.as_slice() == worked.printed.as_bytes())
 }
