@@ -1,5 +1,4 @@
 -- A scenario that starts nothing but joins, and has enough frames for them, never ends because more would be sent.
--- Cited above: never_spent
 use Rattle.std.proofs.Common.{◌≡◌, ◌⊎◌, inl, inr, ℕ, ◌+◌, ◌≤◌, true, false, List, [], ◌∷◌, ◌++◌, filter, map, length, take, Option, None, Some, arith, refl, ap, sym, subst, ◌∙◌, append-nil, length-append}
 use Rattle.std.specs.Prelude.{IfSome, slice_get}
 use Rattle.std.specs.List.{filter_map}

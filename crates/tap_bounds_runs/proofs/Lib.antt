@@ -8,7 +8,7 @@ mod Sum
 mod Accepts
 pub mod JoinLogs
 mod JoinsBegun
-pub mod Enough
+mod Enough
 mod Since
 pub mod AtRest
 pub mod CarriedEnough

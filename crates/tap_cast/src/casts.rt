@@ -68,13 +68,13 @@ impl Casts {
     ///
     /// Else the level is kept, and the cast goes on over the levels from this one up to the one that
     /// was kept before, or to the last if none was: in each slot of these levels to the primary, or if
-    /// there is none to all pins. If memory is refused, nothing changes; where the answer is `Already`, none is wanted.
+    /// there is none to all pins. If memory is refused, nothing changes; if the answer is `Already`, none is wanted.
     pub fn cast(&mut self, cast: u32, level: u8, table: &Table) -> Result<CastTurn, NoMemory>
         requires { level ≤ table.now.settings.digits }
         ensures turn { IfOk result (λ turn. turn ≡ turn_of self.old table.now cast level) }
         ensures after { OnOk result (self.new ≡ with_cast self.old cast level) }
         ensures same { OnErr result (self.new ≡ self.old) }
-        // Where the answer is `Already`, no memory is wanted.
+        // If the answer is `Already`, no memory is wanted.
         ensures known { OnErr result (is_kept (level_of_cast self.old cast) level ≡ false) }
     {
         let kept = self.level_of(cast);

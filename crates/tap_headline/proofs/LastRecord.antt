@@ -1,5 +1,4 @@
 -- What the last record of a log says of how its run has ended.
--- Cited above: finished_says, spent_says
 use Rattle.std.proofs.Common.{◌≡◌, ℕ, List, [], ◌∷◌, ◌++◌, length, Some, ap, sym, subst, ◌∙◌, append-nil, append_assoc}
 use Rattle.tap_scenario.specs.Scenario.{ScenarioValue}
 use Rattle.tap_log.specs.declared.record.Record.{Record}

@@ -1,8 +1,8 @@
-pub mod LastRecord
-pub mod Scripts
+mod LastRecord
+mod Scripts
 mod PrintedRecords
 mod Groups
-pub mod Printable
+mod Printable
 mod Starts
 mod Departing
 pub mod Ended
@@ -17,6 +17,6 @@ mod Openings
 mod CarriedEnds
 mod CarriedMoments
 mod CarriedTaken
-pub mod CarriedHeadline
+mod CarriedHeadline
 mod CarriedPrinted
 pub mod Runs

@@ -1,5 +1,4 @@
 -- Each log of a run begins as its scenario does, with the scenario's first steps, and has the headline, also if the run is over.
--- Cited above: logs_follow_scripts, logs_have_headline
 use Rattle.std.proofs.Common.{◌≡◌, inl, inr, ℕ, suc, ◌+◌, List, [], ◌∷◌, ◌++◌, length, take, Some, refl, ap, sym, subst, ◌∙◌, arith, append-nil, length-append}
 use Rattle.std.specs.Prelude.{slice_get}
 use Rattle.std.proofs.lemmas.List.Elements.{filter_map-append}

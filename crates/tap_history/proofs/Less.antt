@@ -1,5 +1,5 @@
 -- A list less another one, after one of them has grown.
--- Cited above: filter-twice, filter_map_within, filter_within, less_by-more, less_by-none
+-- Cited above: filter-twice, filter_map_within, filter_within, less_by-more, less_by-none, not_or
 use Rattle.std.proofs.Common.{◌≡◌, ℕ, ◌+◌, ◌≤◌, Bool, true, false, List, [], ◌∷◌, ◌++◌, length, filter, not, Option, None, Some, refl, ap, sym, ◌∙◌, cond, arith}
 use Rattle.std.specs.Prelude.{◌&&◌, ◌||◌}
 use Rattle.std.specs.List.{cons_option, filter_map, list_any}

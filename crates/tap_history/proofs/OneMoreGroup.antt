@@ -1,5 +1,6 @@
 -- Which node is departing, once one more group has ended.
--- Cited above: accepted_in-group, departs, is_carried-group, is_moment-earlier, is_moment-end, is_moment-within, moment_by, one_more_group_holds
+-- Cited above: accepted_in-group, carried_first, departs, is_carried-group, is_moment-earlier, is_moment-end, is_moment-within, moment_by,
+-- one_more_group_holds
 use Rattle.std.proofs.Common.{◌≡◌, ℕ, zero, suc, ◌+◌, ◌-◌, ◌<◌, ◌≤◌, Bool, true, false, not, List, [], ◌∷◌, ◌++◌, length, take, drop, get_or, filter, All, Option, None, Some, ◌⊎◌, inl, inr, refl, ap, sym, subst, ◌∙◌, arith, append-nil, length-append}
 use Rattle.std.specs.Prelude.{◌&&◌, ◌||◌, nat_eq, nat_le, slice_get, unwrap_or, if◌then◌else◌}
 use Rattle.std.specs.List.{filter_map, cons_option, last_or, list_any, range_with_len}

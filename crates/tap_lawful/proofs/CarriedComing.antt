@@ -1,5 +1,5 @@
 -- The group that comes next in a carried run is that of what is due, or of the next step.
--- Cited above: begun_head, carried_coming
+-- Cited above: begun_head, carried_coming, CarriedBegins
 use Rattle.std.proofs.Common.{◌≡◌, ◌⊎◌, inl, inr, ℕ, ◌+◌, Bool, true, false, List, [], ◌∷◌, ◌++◌, Option, None, Some, refl}
 use Rattle.std.specs.Prelude.{slice_get}
 use Rattle.tap_name.specs.Settings.{SettingsValue}

@@ -1,5 +1,5 @@
 -- How the log of a carried run grows: group by group, and its steps are the scenario's first ones, numbered from 1.
--- Cited above: carried_all, carried_more, carried_steps, within_none
+-- Cited above: carried_all, carried_indices, carried_more, carried_starts, carried_steps, within_none
 use Rattle.std.proofs.Common.{◌≡◌, inl, inr, ℕ, suc, ◌+◌, ◌≤◌, true, false, List, [], ◌∷◌, ◌++◌, take, get_or, All, Option, None, Some, refl, ap, sym, subst, ◌∙◌, arith, append-nil}
 use Rattle.std.specs.List.{filter_map, range_with_len}
 use Rattle.std.specs.Option.{option_map}

@@ -9,7 +9,7 @@ pub mod Choices
 pub mod CarriedComing
 pub mod CarriedTurns
 pub mod CarriedWhole
-mod CarriedChoosing
+pub mod CarriedChoosing
 mod CarriedMoves
 mod CarriedTicks
 pub mod CarriedReduction

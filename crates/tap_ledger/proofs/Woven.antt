@@ -1,5 +1,5 @@
 -- What the whole log of a run is, of plain records and remarks, and how it grows.
--- Cited above: woven_nothing, woven_grows, woven_remark
+-- Cited above: woven_grows, woven_nothing, woven_remark
 use Rattle.std.proofs.Common.{◌≡◌, ℕ, suc, ◌+◌, ◌<◌, ◌≤◌, Bool, true, false, not, nat_eq, List, [], ◌∷◌, ◌++◌, length, filter, map, All, refl, ap, sym, ◌∙◌, arith, cond, append-nil, append_assoc}
 use Rattle.std.specs.Prelude.{if◌then◌else◌}
 use Rattle.std.proofs.lemmas.Bool.{ne_eqb, eq-eqb}

@@ -1,6 +1,7 @@
 -- What more records at the end of a log change in what its records tell.
--- Cited above: begun_steps-push, bytes_of-append, bytes_of-push, carried_alone, carried_none, carried_second, carried_third, filter_map-push,
--- filter_map-same, is_carried-push, last_of-push, one_more_record_holds, packet_count-append, sent_count-append, ticket_count-append
+-- Cited above: begun_steps-push, bytes_of-append, bytes_of-push, carried_alone, carried_none, carried_second, carried_third, EachRecord-push,
+-- filter_map-push, filter_map-same, is_carried-push, last_of-push, one_more_record_holds, packet_count-append, resent_count-append,
+-- resent_count-push, sent_count-append, ticket_count-append
 use Rattle.std.proofs.Common.{◌≡◌, ◌≢◌, ℕ, ◌+◌, Bool, false, List, [], ◌∷◌, ◌++◌, length, Option, None, Some, refl, ap, sym, ◌∙◌, arith, append_assoc, append-nil, length-append, subst, add-zero}
 use Rattle.std.specs.Prelude.{◌&&◌, if◌then◌else◌, fold, is_some, slice_get}
 use Rattle.std.specs.List.{filter_map}

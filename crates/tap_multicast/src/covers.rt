@@ -81,7 +81,7 @@ impl Covers {
     ///
     /// The joiner is pinned in the table. Its prefix is at most the level, and at most the number of digits that
     /// it shares with the owner; the level is at most the number of digits of a name. Each slot of the watch has a
-    /// level at most the prefix, and a digit below the base. If memory is refused, nothing changes; where the answer is
+    /// level at most the prefix, and a digit below the base. If memory is refused, nothing changes; if the answer is
     /// `Already`, none is wanted.
     pub fn cover(
         &mut self,
@@ -95,7 +95,7 @@ impl Covers {
         ensures answer { IfOk result (λ turn. turn ≡ covered self.old table.now watch.now joiner prefix level) }
         ensures after { OnOk result (self.new ≡ with_cover self.old joiner level) }
         ensures same { OnErr result (self.new ≡ self.old) }
-        // Where the answer is `Already`, no memory is wanted.
+        // If the answer is `Already`, no memory is wanted.
         ensures known { OnErr result (is_kept (level_kept self.old joiner) level ≡ false) }
     {
         let kept = self.level_of(joiner);

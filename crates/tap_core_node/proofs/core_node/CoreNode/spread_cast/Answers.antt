@@ -15,4 +15,4 @@ send_casts-requires c =
     } in
     rw c.sender-sender.ensures.value (casts_spelled (sender_of c.args.self.now.core.table)
     (rw c.sender-sender.ensures.value at c.sender-sender.ensures.name) fields c.args.targets.now (omega (arith, number))
-    (rw c.in_ok-letters.ensures c.requires.word) c.requires.names c.requires.levels)
+    (rw c.in_ok-letters.ensures.value c.requires.word) c.requires.names c.requires.levels)
