@@ -277,6 +277,46 @@ fn a_later_cover_tells_of_new_levels_alone(rt: HostRuntime) -> Result<(), Fail> 
     Ok(())
 }
 
+const MANY: &str = "100 110 120 130 200 300";
+
+// Six joiners are covered one after the other, and each of them is covered already then.
+#[test]
+fn covers_of_many_joiners_are_kept(rt: HostRuntime) -> Result<(), Fail> {
+    let settings = Settings::new(4, 3, 2).ok_or("settings")?;
+    let mut table = table_of(rt.alloc(), &settings, "000", "")?;
+    link(&mut table, MANY, true)?;
+    let mut covers = Covers::new(rt.alloc());
+    for name in MANY.split(' ') {
+        let joiner = read_name(&settings, name.as_bytes())?;
+        assert_eq!(rt; covers.level_of(joiner), None, "{name}");
+        given_at_prefix_0(rt.alloc(), &settings, &mut covers, &table, name)?;
+        assert_eq!(rt; covers.level_of(joiner), Some(0), "{name}");
+    }
+    for name in MANY.split(' ') {
+        let text = given_at_prefix_0(rt.alloc(), &settings, &mut covers, &table, name)?;
+        assert_eq!(rt; text.as_slice(), b"already".as_slice(), "{name}");
+    }
+    Ok(())
+}
+
+// What the first word of a joiner makes a node do that shares no digit with it.
+fn given_at_prefix_0(
+    alloc: Global,
+    settings: &Settings,
+    covers: &mut Covers,
+    table: &Table,
+    name: &str,
+) -> Result<Vec<u8>, Fail> {
+    let joiner = read_name(settings, name.as_bytes())?;
+    let watch = watch_of(alloc, settings, name, 0)?;
+    let word = Word {
+        joiner,
+        prefix: 0,
+        level: 0,
+    };
+    given(alloc, covers, table, &word, &watch)
+}
+
 // The table of a node with settled links.
 fn table_of(alloc: Global, settings: &Settings, owner: &str, settled: &str) -> Result<Table, Fail> {
     let owner = read_name(settings, owner.as_bytes())?;

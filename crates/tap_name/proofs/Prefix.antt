@@ -1,14 +1,8 @@
--- the longest common prefix, as a loop finds it
+-- names that share all their digits
 -- Cited above: prefix_of_itself, whole_prefix
-use Rattle.std.proofs.Common.{◌≡◌, inl, inr, ℕ, ◌+◌, ◌≤◌, List, [], ◌∷◌, length, drop, nat_eq, arith, min, length-drop, refl}
+use Rattle.std.proofs.Common.{◌≡◌, inl, inr, ℕ, ◌+◌, List, [], ◌∷◌, length, nat_eq, arith, refl}
 use Rattle.std.proofs.lemmas.Bool.{cases_Bool, eqb-true, eq-eqb}
 use Rattle.std.specs.List.{common_prefix_len}
-use Rattle.std.proofs.lemmas.List.Sums.{common_prefix_len-le}
-
--- nothing is common after the end of one
-pub nothing_after : (xs ys : List ℕ) (n : ℕ) → min (length xs) (length ys) ≤ n → common_prefix_len nat_eq (drop n xs) (drop n ys) ≡ 0
-nothing_after xs ys n h =
-    let both = common_prefix_len-le nat_eq (drop n xs) (drop n ys) in omega (arith, h, both.0, both.1, length-drop n xs, length-drop n ys)
 
 -- a name that is a prefix of another of its length is that one
 pub whole_prefix : (a b : List ℕ) → length a ≡ length b → common_prefix_len nat_eq a b ≡ length a → a ≡ b

@@ -1,5 +1,6 @@
 -- a name and its text
--- Cited above: name_of_word-back, name_of_word-text, text_of_name-all, text_of_name-length, text_of_name-more, text_of_name-no_space
+-- Cited above: name_of_word-back, name_of_word-text, text_of_name-All, text_of_name-all, text_of_name-length, text_of_name-more,
+-- text_of_name-no_space
 use Rattle.std.proofs.Common.{◌≡◌, ◌↔◌, ◌==◌, ℕ, ◌<◌, ◌≤◌, nat_lt, nat_le, arith, List, [], ◌∷◌, length, get_or, map, take, set, ◌+◌, false, All, Some, Result, Ok, Err, refl, ap, sym, ◌∙◌, inl, inr}
 use Rattle.std.specs.List.{position_or_len}
 use Rattle.std.specs.Result.{result_ok}

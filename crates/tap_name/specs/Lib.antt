@@ -1,6 +1,7 @@
 pub mod Settings
 pub mod Digits
 pub mod Padded
+pub mod Packed
 pub mod Name
 pub mod Word
 pub mod Cyclic

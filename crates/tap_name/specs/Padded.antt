@@ -1,9 +1,8 @@
 -- so many places, of which the first are in use
-use Rattle.std.specs.Prelude.{◌≡◌, ℕ, ◌+◌, ◌-◌, ◌<◌, ◌≤◌, List, ◌++◌, length, take, drop, replicate, All}
-use Rattle.std.proofs.Common.{arith, ap, set, ◌∙◌, take-append-drop, length-take-le, length-set}
+use Rattle.std.specs.Prelude.{◌≡◌, ℕ, ◌-◌, ◌≤◌, List, ◌++◌, length, take, drop, replicate, All}
+use Rattle.std.proofs.Common.{arith, take-append-drop, length-take-le}
 use Rattle.std.proofs.Math.Seq.{drop-append_seam, take-append_seam}
-use Rattle.std.proofs.lemmas.List.{drop-drop, drop-replicate, drop-set-lt, length-append, length-replicate, take_more_set}
-use Rattle.std.proofs.lemmas.List.Elements.{All-push}
+use Rattle.std.proofs.lemmas.List.{length-append, length-replicate}
 
 -- each place in use holds what may stand there, and the others hold 0
 pub record IsPadded (size : ℕ) (MayStand : ℕ → Type 0) (places : List ℕ) (len : ℕ) : Type 0 where
@@ -31,21 +30,4 @@ IsPadded-padded size MayStand xs few may =
           let zeros = length-replicate {A = ℕ} (size - length xs) 0 in omega arith;
       rest = drop-append_seam xs (replicate (size - length xs) 0);
       used = rw (take-append_seam xs (replicate (size - length xs) 0)) may;
-    }
-
--- one more value at the first free place
-pub pushed : (size : ℕ) (MayStand : ℕ → Type 0) (places : List ℕ) (len value : ℕ) → IsPadded size MayStand places len
-    → len < size → MayStand value → IsPadded size MayStand (set places len value) (len + 1)
-pushed size MayStand places len value h room may =
-    let free : len < length places = omega (arith, h.all) in
-    record {
-      fits = omega arith;
-      all = length-set places len value ∙ h.all;
-      rest = rw (
-        drop-set-lt (len + 1) places len value (omega arith),
-        ← drop-drop 1 len places,
-        h.rest,
-        drop-replicate {X = ℕ} 1 (size - len) 0,
-      ) (ap (λ n. replicate n 0) (omega arith));
-      used = rw (take_more_set places len value free) (All-push MayStand (take len places) value h.used may);
     }

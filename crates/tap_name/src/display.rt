@@ -13,7 +13,8 @@ impl fmt::Display for Name {
     ghost styled_output = { λ name spec. Some (styled_text spec (text_of_name name)) };
 
     fn fmt<W: fmt::Write>(&self, f: &mut fmt::Formatter<W>) -> fmt::Result {
-        let digits = self.as_slice();
+        let name = self.digits();
+        let digits = name.as_slice();
         let mut text = [0; 40];
         for (at, digit) in digits.iter().enumerate() {
             text[at] = text_of_digit(*digit);

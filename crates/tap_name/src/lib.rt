@@ -5,6 +5,7 @@ mod display;
 mod list;
 mod memory;
 mod name;
+mod name_digits;
 mod settings;
 mod slot;
 #[cfg(test)]
@@ -14,6 +15,7 @@ mod word;
 pub use list::List;
 pub use memory::NoMemory;
 pub use name::{Name, NameFault, USUAL_DIGITS, read_name, text_of_digit};
+pub use name_digits::NameDigits;
 pub use settings::Settings;
 pub use slot::{Offered, Slot, next_cyclic, slot_of};
 pub use word::are_word_bytes;

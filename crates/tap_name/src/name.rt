@@ -1,16 +1,19 @@
-ghost use Rattle.std.specs.Prelude.{◌≡◌, ◌↔◌, ℕ, ◌+◌, ◌<◌, ◌≤◌, List, [], ◌∷◌, ◌++◌, length, slice_index, All, Some, Ok, nat_eq, IfOk};
+ghost use Rattle.std.specs.Prelude.{◌≡◌, ◌↔◌, ℕ, ◌+◌, ◌<◌, ◌≤◌, List, [], ◌∷◌, ◌++◌, length, slice_index, All, Some, Ok, nat_eq, IfOk, ◌*◌, min};
 ghost use Rattle.std.proofs.Common.{rules};
 ghost use Rattle.std.proofs.lemmas.Slice.Eq.{bytes_eq-Decides};
+ghost use Rattle.std.specs.Bool.{OnTrue};
 ghost use Rattle.std.specs.Cmp.{partial_equiv_from_equiv};
 ghost use Rattle.std.specs.Cmp.Lexicographic.{pointwise, slice_cmp, nat_list_eq_equiv, nat_list_cmp_total, texts_po, texts_ties};
-ghost use Rattle.std.specs.Int.{from_be_bytes, w64};
 ghost use Rattle.std.specs.Ordering.{nat_cmp};
 ghost use Rattle.std.specs.Hash.{same_Alike};
 ghost use Rattle.std.specs.List.{common_prefix_len};
 ghost use Rattle.tap_name.specs.Digits.{digit_of_text, text_of_digit};
 ghost use Rattle.tap_name.specs.Name.{IsName, name_of_digits, name_of_text, text_of_name};
+ghost use Rattle.tap_name.specs.Packed.{halves, head_from, joined};
+ghost use Rattle.tap_name.specs.Padded.{padded};
 ghost use Rattle.tap_name.specs.Prefix.{lcp};
 
+use crate::name_digits::NameDigits;
 use crate::settings::Settings;
 use std::cmp::Ordering;
 use std::hash::{Hash, Hasher};
@@ -23,31 +26,33 @@ pub const USUAL_DIGITS: usize = 8;
 
 /// A name of a node or an object: up to 40 digits, each below 16.
 ///
-/// Names are ordered digit by digit. Contracts see the list of the digits.
+/// Names are ordered digit by digit. Contracts see the list of the digits. Two digits stand in a byte, and a name takes 24 bytes,
+/// which two moves copy without overlap: names are moved far more often than their digits are looked at.
 ///
 /// Rule: docs/PROTOCOL.md, "Names".
 #[derive(Clone, Copy, Debug)]
 pub struct Name {
-    places: [u8; 40],
-    len: u8,
+    pairs: [u8; 20],
+    len: u32,
 }
 
 impl Model for Name {
     ghost use Rattle.std.specs.Prelude.{List, ℕ, ◌<◌, take, length};
-    ghost use Rattle.std.proofs.Common.{arith, length-take-le};
+    ghost use Rattle.std.proofs.Common.{◌∙◌, ap, arith, length-take-le};
     ghost use Rattle.tap_name.specs.Padded.{IsPadded, padded, padded_take};
+    ghost use Rattle.tap_name.specs.Packed.{halves, joined, joined-halves};
 
     ghost Value = { List ℕ };
 
-    ghost view = { λ n. take n.len n.places };
+    ghost view = { λ n. take n.len (halves n.pairs) };
 
-    ghost invariant = { λ n. IsPadded 40 (λ d. d < 16) n.places n.len };
+    ghost invariant = { λ n. IsPadded 40 (λ d. d < 16) (halves n.pairs) n.len };
 
-    ghost inverse = { λ xs. record { places = padded 40 xs; len = length xs } };
+    ghost inverse = { λ xs. record { pairs = joined (padded 40 xs); len = length xs } };
 
     ghost inverse_ok = { λ n h i. record {
-      places = padded_take 40 (λ d. d < 16) n.places n.len h i;
-      len = length-take-le n.len n.places (omega (arith, h.fits, h.all)) i;
+      pairs = (ap joined (padded_take 40 (λ d. d < 16) (halves n.pairs) n.len h) ∙ joined-halves n.pairs) i;
+      len = length-take-le n.len (halves n.pairs) (omega (arith, h.fits, h.all)) i;
     } };
 }
 
@@ -63,33 +68,30 @@ pub enum NameFault {
 }
 
 impl Name {
-    // The name with no digits.
-    fn empty() -> Name
-        ensures { result ≡ [] }
+    /// The digits, one a byte.
+    ///
+    /// Rule: docs/PROTOCOL.md, "Names".
+    #[inline(always)]
+    pub fn digits(&self) -> NameDigits
+        ensures { result ≡ self.now }
     {
-        Name {
-            places: [0; 40],
-            len: 0,
-        }
+        let mut places = [0; 40];
+        put_halves(&self.pairs, &mut places);
+        NameDigits::first_of(places, self.len)
     }
 
-    // Adds a digit at the end.
-    fn push(&mut self, digit: u8)
-        requires room { length self.old < 40 }
-        requires is_digit { digit < 16 }
-        ensures { self.new ≡ self.old ++ digit ∷ [] }
-    {
-        self.places[self.len as usize] = digit;
-        self.len += 1;
-    }
-
-    /// The digits, the first one first.
-    pub fn as_slice(&self) -> &[u8]
-        ensures value { result.now ≡ self.now }
-        ensures len { length self.now ≤ 40 }
+    /// The digits, one a byte, of a name that has as many as usual.
+    ///
+    /// Rule: docs/PROTOCOL.md, "Names".
+    #[inline(always)]
+    pub fn usual_digits(&self) -> [u8; USUAL_DIGITS]
+        requires { length self.now ≡ 8 }
+        ensures value { result ≡ self.now }
         ensures digits { All (λ d. d < 16) self.now }
     {
-        &self.places[..self.len as usize]
+        let mut digits = [0; USUAL_DIGITS];
+        put_halves(&self.pairs[..USUAL_DIGITS / 2], &mut digits);
+        digits
     }
 
     /// The number of digits.
@@ -106,7 +108,8 @@ impl Name {
         ensures value { result ≡ slice_index self.now at }
         ensures is_digit { result < 16 }
     {
-        self.places[at]
+        let pair = self.pairs[at / 2];
+        if at % 2 == 0 { pair / 16 } else { pair % 16 }
     }
 
     /// The byte that the digit at a place, from 0, is printed as: `0` to `9`, then `a` to `f`.
@@ -117,23 +120,30 @@ impl Name {
         text_of_digit(self.digit(at))
     }
 
-    // The first digits, as many as names usually have, as one number in which the first digit is worth the most. Digits that
-    // the name doesn't have count as 0.
+    // The first sixteen digits as one number, in which the first is worth the most. Digits that the name doesn't have count as 0.
     #[inline(always)]
     fn head(&self) -> u64
-        ensures value { result ≡ from_be_bytes w64 self.now }
+        ensures value { result ≡ head_from 16 0 self.now }
         ensures digits { All (λ d. d < 16) self.now }
     {
         u64::from_be_bytes([
-            self.places[0],
-            self.places[1],
-            self.places[2],
-            self.places[3],
-            self.places[4],
-            self.places[5],
-            self.places[6],
-            self.places[7],
+            self.pairs[0],
+            self.pairs[1],
+            self.pairs[2],
+            self.pairs[3],
+            self.pairs[4],
+            self.pairs[5],
+            self.pairs[6],
+            self.pairs[7],
         ])
+    }
+
+    // Whether both have one number of digits, and no digit after their heads.
+    #[inline(always)]
+    fn are_heads(&self, other: &Name) -> bool
+        ensures { OnTrue result ((length self.now ≡ length other.now) × (length self.now ≤ 16)) }
+    {
+        self.len() == other.len() && self.len() <= 16
     }
 
     /// The length of the longest common prefix of two names.
@@ -144,15 +154,7 @@ impl Name {
         ensures within_other { result ≤ length other.now }
         ensures most { result ≤ 40 }
     {
-        let mine = self.as_slice();
-        let theirs = other.as_slice();
-        let most = mine.len().min(theirs.len());
-        for at in 0..most {
-            if mine[at] != theirs[at] {
-                return at;
-            }
-        }
-        most
+        shared_halves(&self.pairs, &other.pairs, self.len().min(other.len()))
     }
 
     /// The name of these digit values. A wrong number of them is found before a bad digit.
@@ -184,13 +186,70 @@ impl Name {
         requires digits { All (λ d. d < 16) digits.now }
         ensures { result ≡ digits.now }
     {
-        let mut places = [0; 40];
-        places[..digits.len()].copy_from_slice(digits);
         Name {
-            places,
-            len: digits.len() as u8,
+            pairs: joined(digits),
+            len: digits.len() as u32,
         }
     }
+}
+
+// Writes the halves of bytes.
+#[inline(always)]
+fn put_halves(bytes: &[u8], digits: &mut [u8])
+    requires { length digits.old ≡ 2 * length bytes.now }
+    ensures { digits.new ≡ halves bytes.now }
+{
+    for at in 0..bytes.len() {
+        digits[2 * at] = bytes[at] / 16;
+        digits[2 * at + 1] = bytes[at] % 16;
+    }
+}
+
+// How many first halves are equal, at most so many.
+#[inline(always)]
+fn shared_halves(mine: &[u8; 20], theirs: &[u8; 20], most: usize) -> usize
+    requires { most ≤ 40 }
+    ensures { result ≡ min most (common_prefix_len nat_eq (halves mine.now) (halves theirs.now)) }
+{
+    for at in 0..most.div_ceil(2) {
+        if mine[at] / 16 != theirs[at] / 16 {
+            return most.min(2 * at);
+        }
+        if mine[at] != theirs[at] {
+            return most.min(2 * at + 1);
+        }
+    }
+    most
+}
+
+// Writes digits two a byte.
+#[inline(always)]
+fn put_joined(digits: &[u8], pairs: &mut [u8])
+    requires pairs { length digits.now ≡ 2 * length pairs.old }
+    requires digits { All (λ d. d < 16) digits.now }
+    ensures { pairs.new ≡ joined digits.now }
+{
+    for at in 0..pairs.len() {
+        pairs[at] = digits[2 * at] * 16 + digits[2 * at + 1];
+    }
+}
+
+// At most forty digits two a byte, and zeros after them. If they are as many as usual, all are joined at once.
+#[inline(always)]
+fn joined(digits: &[u8]) -> [u8; 20]
+    requires few { length digits.now ≤ 40 }
+    requires digits { All (λ d. d < 16) digits.now }
+    ensures { result ≡ joined (padded 40 digits.now) }
+{
+    let mut pairs = [0; 20];
+    if digits.len() == USUAL_DIGITS {
+        put_joined(digits, &mut pairs[..USUAL_DIGITS / 2]);
+        return pairs;
+    }
+    let mut places = [0; 40];
+    places[..digits.len()].copy_from_slice(digits);
+    put_joined(&places, &mut pairs);
+    pairs
 }
 
 /// The byte that a digit is printed as: `0` to `9`, then `a` to `f`.
@@ -225,15 +284,15 @@ fn spelled(settings: &Settings, text: &[u8]) -> Result<Name, NameFault>
     if text.len() != settings.digits() as usize {
         return Err(NameFault::BadLength(text.len()));
     }
-    let mut name = Name::empty();
+    let mut digits = [0; 40];
     for (at, byte) in text.iter().enumerate() {
         let digit = digit_value(*byte);
         if digit >= settings.base() {
             return Err(NameFault::BadDigit(at));
         }
-        name.push(digit);
+        digits[at] = digit;
     }
-    Ok(name)
+    Ok(Name::of(&digits[..text.len()]))
 }
 
 /// The name that a text spells, one byte for each digit: `0` to `9` and `a` to `f`, below the base. Capital letters
@@ -258,25 +317,28 @@ impl PartialEq for Name {
 
     ghost laws = { partial_equiv_from_equiv nat_list_eq_equiv };
 
-    // By their heads, and by all digits if the names haven't both eight.
+    // By their heads, and by all digits if they have more.
     #[inline(always)]
     fn eq(&self, other: &Name) -> bool {
         if self.head() != other.head() {
             return false;
         }
-        if self.len() == USUAL_DIGITS && other.len() == USUAL_DIGITS {
+        if self.are_heads(other) {
             return true;
         }
-        are_same(self.as_slice(), other.as_slice())
+        are_same(self, other)
     }
 }
 
-// Whether digits are the same.
+// Whether names have the same digits.
 #[inline(never)]
-fn are_same(mine: &[u8], theirs: &[u8]) -> bool
+fn are_same(mine: &Name, theirs: &Name) -> bool
     ensures { result ≡ pointwise nat_eq mine.now theirs.now }
 {
-    mine == theirs
+    if mine.len != theirs.len {
+        return false;
+    }
+    mine.pairs == theirs.pairs
 }
 
 impl Eq for Name {
@@ -302,7 +364,7 @@ impl Ord for Name {
 
     ghost matches_eq = { texts_ties };
 
-    // By their heads. The digits are compared one by one only if the heads are equal and the names haven't both eight digits.
+    // By their heads. All digits are compared only if the heads are equal and there are more digits.
     #[inline(always)]
     fn cmp(&self, other: &Name) -> Ordering {
         let mine = self.head();
@@ -313,19 +375,22 @@ impl Ord for Name {
         if theirs < mine {
             return Ordering::Greater;
         }
-        if self.len() == USUAL_DIGITS && other.len() == USUAL_DIGITS {
+        if self.are_heads(other) {
             return Ordering::Equal;
         }
-        cmp_digits(self.as_slice(), other.as_slice())
+        cmp_digits(self, other)
     }
 }
 
-// Compares digits one by one; a beginning of the other's comes first.
+// Compares names digit by digit; a beginning of the other comes first.
 #[inline(never)]
-fn cmp_digits(mine: &[u8], theirs: &[u8]) -> Ordering
+fn cmp_digits(mine: &Name, theirs: &Name) -> Ordering
     ensures { result ≡ slice_cmp nat_cmp mine.now theirs.now }
 {
-    mine.cmp(theirs)
+    if are_same(mine, theirs) {
+        return Ordering::Equal;
+    }
+    mine.digits().as_slice().cmp(theirs.digits().as_slice())
 }
 
 impl Hash for Name {
@@ -335,6 +400,10 @@ impl Hash for Name {
     ghost respects_eq = { (same_Alike (λ digits. digits ∷ []) bytes_eq-Decides).fed };
 
     fn hash<H: Hasher>(&self, state: &mut H) {
-        state.write(self.as_slice());
+        if self.len() == USUAL_DIGITS {
+            state.write(&self.usual_digits());
+        } else {
+            state.write(self.digits().as_slice());
+        }
     }
 }

@@ -14,7 +14,7 @@ fn named(text: &str) -> Result<(Settings, Name), Fail> {
 #[test]
 fn reads_names(rt: HostRuntime) -> Result<(), Fail> {
     let (settings, name) = named("230")?;
-    assert_eq!(rt; name.as_slice(), [2, 3, 0].as_slice());
+    assert_eq!(rt; name.digits().as_slice(), [2, 3, 0].as_slice());
     let cases = [
         ("23", NameFault::BadLength(2)),
         ("", NameFault::BadLength(0)),
@@ -36,6 +36,19 @@ fn reads_names(rt: HostRuntime) -> Result<(), Fail> {
         Name::from_digits(&settings, &[2, 4, 5]),
         Err(NameFault::BadDigit(1))
     );
+    Ok(())
+}
+
+// Names of forty digits, which share all but the last one.
+#[test]
+fn long_names_are_compared_to_their_ends(rt: HostRuntime) -> Result<(), Fail> {
+    let settings = Settings::new(16, 40, 2).ok_or("settings")?;
+    let text = b"0123456789abcdef0123456789abcdef01234567";
+    let a = read_name(&settings, text).map_err(|_| "a name")?;
+    let text = b"0123456789abcdef0123456789abcdef01234568";
+    let b = read_name(&settings, text).map_err(|_| "a name")?;
+    assert!(rt; a < b && a != b && a == a);
+    assert_eq!(rt; (a.lcp(&b), a.lcp(&a)), (39, 40));
     Ok(())
 }
 

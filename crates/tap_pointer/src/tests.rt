@@ -1,4 +1,4 @@
-ghost use Rattle.std.specs.Prelude.{◌≡◌, IfOk, OnOk};
+ghost use Rattle.std.specs.Prelude.{◌≡◌, ◌≤◌, length, IfOk, OnOk};
 ghost use Rattle.tap_name.specs.Name.{IsName};
 ghost use Rattle.tap_pointer.specs.Reconcile.{AreLaid, AreLaidBut, AreNamesHeld};
 
@@ -23,6 +23,15 @@ enum Act {
         leaver: &'static str,
         replacement: &'static str,
     },
+}
+
+// How the pairs are laid as wanted after an act: all are looked at, or the one that it touched, which is one call with the act if
+// this is a Lay.
+#[derive(Clone, Copy, PartialEq)]
+enum Mode {
+    Whole,
+    Pair,
+    Once,
 }
 
 // A node with some settled links, and the Lays that it sends after each act: whether it is on, the receiver and the level,
@@ -140,33 +149,53 @@ const CASES: [Case; 6] = [
     },
 ];
 
-// All pairs are looked at after each act, and in a second run the one alone that the act touched. Reconciled once more, the
-// node sends nothing.
+// All pairs are looked at after each act, and in a second run the one alone that the act touched. In a third run a Lay is taken and
+// its pair laid in one call. Reconciled once more, be it all or what passes a level, the node sends nothing.
 #[test]
 fn lays_go_from_the_old_hop_to_the_new_one(rt: HostRuntime) -> Result<(), Fail> {
     for case in CASES.iter() {
-        check(&rt, rt.alloc(), case, true)?;
-        check(&rt, rt.alloc(), case, false)?;
+        for mode in &[Mode::Whole, Mode::Pair, Mode::Once] {
+            check(&rt, rt.alloc(), case, *mode)?;
+        }
     }
     Ok(())
 }
 
-fn check(rt: &impl Abort, alloc: Global, case: &Case, whole: bool) -> Result<(), Fail> {
+fn check(rt: &impl Abort, alloc: Global, case: &Case, mode: Mode) -> Result<(), Fail> {
     let settings = Settings::new(4, 3, case.width).ok_or("settings")?;
     let owner = read_name(&settings, case.owner.as_bytes())?;
     let mut table = table_of(alloc, &settings, owner, case.links)?;
     let mut pointers = pointers_of(alloc, &table);
     let mut stamp = Stamp::new();
     for (act, wanted) in case.acts.iter() {
-        let lays = play(&mut pointers, &mut table, &mut stamp, act, whole)?;
+        let lays = play(&mut pointers, &mut table, &mut stamp, act, mode)?;
         check_lays(rt, alloc, &lays, wanted)?;
-        let more = reconcile(&mut pointers, &table, &mut stamp)?;
-        check_lays(rt, alloc, &more, "")?;
+        check_settled(rt, alloc, &mut pointers, &table, &mut stamp)?;
     }
     let lays = clear(&mut pointers, &mut stamp)?;
     check_lays(rt, alloc, &lays, case.cleared)?;
     assert_eq!(rt; pointers.span(), 0);
     Ok(())
+}
+
+// Reconciled once more, be it all or what passes level 1, the node sends nothing.
+fn check_settled(
+    rt: &impl Abort,
+    alloc: Global,
+    pointers: &mut Pointers,
+    table: &Table,
+    stamp: &mut Stamp,
+) -> Result<(), Fail>
+    requires owner { table.now.owner ≡ pointers.old.owner }
+    requires names { AreNamesHeld table.now.settings pointers.old }
+    ensures owner { OnOk result (table.now.owner ≡ pointers.new.owner) }
+    ensures names { OnOk result (AreNamesHeld table.now.settings pointers.new) }
+    ensures laid { OnOk result (AreLaid table.now pointers.new) }
+{
+    let more = reconcile(pointers, table, stamp)?;
+    check_lays(rt, alloc, &more, "")?;
+    let more = reconcile_at(pointers, table, stamp, 1)?;
+    check_lays(rt, alloc, &more, "")
 }
 
 fn check_lays(rt: &impl Abort, alloc: Global, lays: &List<Lay>, wanted: &str) -> Result<(), Fail> {
@@ -227,7 +256,7 @@ fn play(
     table: &mut Table,
     stamp: &mut Stamp,
     act: &Act,
-    whole: bool,
+    mode: Mode,
 ) -> Result<List<Lay>, Fail>
     requires owner { table.old.owner ≡ pointers.old.owner }
     requires names { AreNamesHeld table.old.settings pointers.old }
@@ -240,24 +269,24 @@ fn play(
     match act {
         Act::Publish(object) => {
             let object = read_name(&settings, object.as_bytes())?;
-            publish(pointers, table, stamp, object, whole)
+            publish(pointers, table, stamp, object, mode)
         }
         Act::Withdraw(object) => {
             let object = read_name(&settings, object.as_bytes())?;
-            withdraw(pointers, table, stamp, object, whole)
+            withdraw(pointers, table, stamp, object, mode)
         }
         Act::On(from, pair, level, version) => {
             let from = read_name(&settings, from.as_bytes())?;
             let pair = read_pair(&settings, *pair)?;
             take(
-                pointers, table, stamp, from, pair, *level, *version, true, whole,
+                pointers, table, stamp, from, pair, *level, *version, true, mode,
             )
         }
         Act::Off(from, pair, level, version) => {
             let from = read_name(&settings, from.as_bytes())?;
             let pair = read_pair(&settings, *pair)?;
             take(
-                pointers, table, stamp, from, pair, *level, *version, false, whole,
+                pointers, table, stamp, from, pair, *level, *version, false, mode,
             )
         }
         Act::Link(name) => {
@@ -284,7 +313,7 @@ fn publish(
     table: &Table,
     stamp: &mut Stamp,
     object: Name,
-    whole: bool,
+    mode: Mode,
 ) -> Result<List<Lay>, Fail>
     requires owner { table.now.owner ≡ pointers.old.owner }
     requires name { IsName table.now.settings object }
@@ -296,7 +325,7 @@ fn publish(
 {
     pointers.publish(object)?;
     let server = pointers.owner();
-    settle(pointers, table, stamp, Pair { object, server }, whole)
+    settle(pointers, table, stamp, Pair { object, server }, mode)
 }
 
 fn withdraw(
@@ -304,7 +333,7 @@ fn withdraw(
     table: &Table,
     stamp: &mut Stamp,
     object: Name,
-    whole: bool,
+    mode: Mode,
 ) -> Result<List<Lay>, Fail>
     requires owner { table.now.owner ≡ pointers.old.owner }
     requires name { IsName table.now.settings object }
@@ -316,7 +345,7 @@ fn withdraw(
 {
     pointers.withdraw(object);
     let server = pointers.owner();
-    settle(pointers, table, stamp, Pair { object, server }, whole)
+    settle(pointers, table, stamp, Pair { object, server }, mode)
 }
 
 fn take(
@@ -328,7 +357,7 @@ fn take(
     level: u8,
     version: u32,
     on: bool,
-    whole: bool,
+    mode: Mode,
 ) -> Result<List<Lay>, Fail>
     requires owner { table.now.owner ≡ pointers.old.owner }
     requires name { IsName table.now.settings pair.object }
@@ -342,8 +371,39 @@ fn take(
     if level < 1 || object.len() < level as usize {
         return Err("a level")?;
     }
+    if mode == Mode::Once {
+        return take_once(pointers, table, stamp, from, pair, level, version, on);
+    }
     pointers.apply_lay(from, object, server, level, version, on)?;
-    settle(pointers, table, stamp, pair, whole)
+    settle(pointers, table, stamp, pair, mode)
+}
+
+// Takes a Lay and lays its pair as wanted, in one call.
+fn take_once(
+    pointers: &mut Pointers,
+    table: &Table,
+    stamp: &mut Stamp,
+    from: Name,
+    pair: Pair,
+    level: u8,
+    version: u32,
+    on: bool,
+) -> Result<List<Lay>, Fail>
+    requires owner { table.now.owner ≡ pointers.old.owner }
+    requires name { IsName table.now.settings pair.object }
+    requires names { AreNamesHeld table.now.settings pointers.old }
+    requires laid { AreLaid table.now pointers.old }
+    requires from { 1 ≤ level }
+    requires to { level ≤ length pair.object }
+    ensures owner { OnOk result (table.now.owner ≡ pointers.new.owner) }
+    ensures names { OnOk result (AreNamesHeld table.now.settings pointers.new) }
+    ensures laid { OnOk result (AreLaid table.now pointers.new) }
+{
+    if 1000 < stamp.last() {
+        return Err("too many Lays")?;
+    }
+    let Pair { object, server } = pair;
+    Ok(pointers.take_lay(table, stamp, from, object, server, level, version, on)?)
 }
 
 // Reconciles all pairs, or one if all others are laid as wanted.
@@ -352,7 +412,7 @@ fn settle(
     table: &Table,
     stamp: &mut Stamp,
     pair: Pair,
-    whole: bool,
+    mode: Mode,
 ) -> Result<List<Lay>, Fail>
     requires owner { table.now.owner ≡ pointers.old.owner }
     requires names { AreNamesHeld table.now.settings pointers.old }
@@ -361,7 +421,7 @@ fn settle(
     ensures names { OnOk result (AreNamesHeld table.now.settings pointers.new) }
     ensures laid { OnOk result (AreLaid table.now pointers.new) }
 {
-    if whole {
+    if mode == Mode::Whole {
         return reconcile(pointers, table, stamp);
     }
     if 1000 < stamp.last() {
@@ -382,6 +442,26 @@ fn reconcile(pointers: &mut Pointers, table: &Table, stamp: &mut Stamp) -> Resul
         return Err("too many Lays")?;
     }
     Ok(pointers.reconcile(table, stamp)?)
+}
+
+// Reconciles what passes a level, if all pairs are laid as wanted.
+fn reconcile_at(
+    pointers: &mut Pointers,
+    table: &Table,
+    stamp: &mut Stamp,
+    level: u8,
+) -> Result<List<Lay>, Fail>
+    requires owner { table.now.owner ≡ pointers.old.owner }
+    requires names { AreNamesHeld table.now.settings pointers.old }
+    requires laid { AreLaid table.now pointers.old }
+    ensures owner { OnOk result (table.now.owner ≡ pointers.new.owner) }
+    ensures names { OnOk result (AreNamesHeld table.now.settings pointers.new) }
+    ensures laid { OnOk result (AreLaid table.now pointers.new) }
+{
+    if 1000 < stamp.last() || 1000 < pointers.span() {
+        return Err("too many Lays")?;
+    }
+    Ok(pointers.reconcile_at(table, stamp, level)?)
 }
 
 fn clear(pointers: &mut Pointers, stamp: &mut Stamp) -> Result<List<Lay>, Fail> {

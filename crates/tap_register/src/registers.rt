@@ -210,6 +210,21 @@ mod tests {
         assert!(rt; !registers.is_empty());
         Ok(())
     }
+
+    // Entries that are added at the end, one after the other.
+    #[test]
+    fn adds_entries_at_the_end(rt: HostRuntime) -> Result<(), Fail> {
+        let mut registers: Registers<u8, char> = Registers::new(rt.alloc());
+        registers.push_last(3, 1, 'a')?;
+        registers.push_last(5, 0, 'b')?;
+        assert_eq!(rt; registers.len(), 2);
+        assert_eq!(rt;
+            (registers.get(3), registers.get(5)),
+            (Some('a'), Some('b'))
+        );
+        assert!(rt; !registers.apply(5, 0, 'c')?);
+        Ok(())
+    }
 }
 
 // Puts an entry in at a place. Most registers keep one key, so that there is room for no more than the first one at first.

@@ -7,7 +7,7 @@ ghost use Rattle.tap_report.specs.Shapes.{name_after, number_after, object_at, o
 use crate::printer::{MOST_DIGITS, Printer};
 use itoa::{Buffer, Integer};
 use tap_io::Sink;
-use tap_name::{Name, text_of_digit};
+use tap_name::{Name, USUAL_DIGITS, text_of_digit};
 
 // The shapes of lines.
 impl Printer {
@@ -43,7 +43,11 @@ impl Printer {
         ensures { Prints (K.state sink.old) (K.state sink.new)
             (text_of_name name.now) self.old self.new }
     {
-        self.add_digits(sink, name.as_slice());
+        if name.len() == USUAL_DIGITS {
+            self.add_digits(sink, &name.usual_digits());
+        } else {
+            self.add_digits(sink, name.digits().as_slice());
+        }
     }
 
     // Adds a word and a name.

@@ -118,11 +118,10 @@ impl Printer {
         ensures { Prints (K.state sink.old) (K.state sink.new)
             (text_of_prefix prefix.now) self.old self.new }
     {
-        let digits = prefix.as_slice();
-        if digits.is_empty() {
+        if prefix.len() == 0 {
             self.add(sink, b"*");
         } else {
-            self.add_digits(sink, digits);
+            self.add_digits(sink, prefix.digits().as_slice());
         }
     }
 }

@@ -39,13 +39,11 @@ fn is_nearer(settings: &Settings, object: &Name, a: &Name, b: &Name) -> bool
     ensures other { OnFalse result (IsAsNear settings.now.base object.now b.now a.now) }
 {
     let base = settings.base();
-    let wanted = object.as_slice();
-    let a = a.as_slice();
-    let b = b.as_slice();
-    for level in 0..wanted.len() {
-        if a[level] != b[level] {
-            return steps_to(base, wanted[level], a[level])
-                < steps_to(base, wanted[level], b[level]);
+    for level in 0..object.len() {
+        let wanted = object.digit(level);
+        let (first, second) = (a.digit(level), b.digit(level));
+        if first != second {
+            return steps_to(base, wanted, first) < steps_to(base, wanted, second);
         }
     }
     false

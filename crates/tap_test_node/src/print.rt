@@ -13,7 +13,7 @@ struct Printed<'a>(&'a Name);
 
 impl<'a> fmt::Display for Printed<'a> {
     fn fmt<W: fmt::Write>(&self, f: &mut fmt::Formatter<W>) -> fmt::Result {
-        for digit in self.0.as_slice() {
+        for digit in self.0.digits().as_slice() {
             write!(f, "{digit:x}")?;
         }
         Ok(())

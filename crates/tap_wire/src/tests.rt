@@ -149,13 +149,19 @@ const TWO_TELLS: [u8; 40] = [
 
 #[test]
 fn spells_many_tells_of_one_watch_list(rt: HostRuntime) -> Result<(), Fail> {
-    let settings = Settings::new(2, 2, 1).ok_or("settings")?;
-    let joiner = read_name(&settings, b"01").map_err(|_| "a name")?;
-    let from = read_name(&settings, b"00").map_err(|_| "a name")?;
+    let Some(settings) = Settings::new(2, 2, 1) else {
+        return Err("settings")?;
+    };
+    let Ok(joiner) = read_name(&settings, b"01") else {
+        return Err("a name")?;
+    };
+    let Ok(from) = read_name(&settings, b"00") else {
+        return Err("a name")?;
+    };
     let mut watch = Watch::new(rt.alloc());
-    watch
-        .push_last(Slot { level: 0, digit: 1 })
-        .map_err(|_| "memory")?;
+    let Ok(()) = watch.push_last(Slot { level: 0, digit: 1 }) else {
+        return Err("memory")?;
+    };
     let fields = TellFields {
         joiner,
         prefix: 0,

@@ -58,11 +58,10 @@ pub(crate) fn put_name(out: &mut [u8], at: usize, name: &Name) -> usize
     requires { HasRoom out.old at name.now }
     ensures { Puts out.old at name.now out.new result }
 {
-    let digits = name.as_slice();
-    if digits.len() == USUAL_DIGITS {
-        return put_bytes(out, at, &digits[..USUAL_DIGITS]);
+    if name.len() == USUAL_DIGITS {
+        return put_bytes(out, at, &name.usual_digits());
     }
-    put_bytes(out, at, digits)
+    put_bytes(out, at, name.digits().as_slice())
 }
 
 // A flag, and the name if there is one.

@@ -1,16 +1,19 @@
-use Rattle.std.proofs.Common.{◌≡◌, ℕ, ◌<◌, get_or, take, arith}
-use Rattle.tap_name.proofs.Heads.{digit_in_place}
+use Rattle.std.proofs.Common.{◌≡◌, ℕ, ◌+◌, ◌*◌, ◌<◌, get_or, take, arith}
+use Rattle.tap_name.specs.Packed.{halves}
+use Rattle.tap_name.proofs.Heads.{sixteen_digits}
+use Rattle.tap_name.proofs.Packed.{pair_in_place}
 use Rattle.tap_name.proofs.name.Name.head.Goals as goal
 
 pub returns-clause-value : goal.returns-clause-value
 returns-clause-value c =
-    let places = c.self.inside.places in
-    let len = c.self.inside.len in
-    let at : (i : ℕ) → i < 40 → get_or places i 0 ≡ get_or (take len places) i 0 =
-    λ i within. digit_in_place places len i c.self.invariant within in
+    let bytes = c.self.inside.pairs in
+    let digits = take c.self.inside.len (halves bytes) in
+    let at : (i : ℕ) → i < 20 → get_or bytes i 0 ≡ get_or digits (2 * i) 0 * 16 + get_or digits (2 * i + 1) 0 =
+    λ i within. pair_in_place bytes c.self.inside.len i c.self.invariant within in
     rw (← c.self.view_is) (omega (
       arith,
       c.from_be_bytes.ensures,
+      sixteen_digits digits,
       at 0 (omega arith),
       at 1 (omega arith),
       at 2 (omega arith),

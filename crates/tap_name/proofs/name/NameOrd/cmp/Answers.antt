@@ -12,8 +12,8 @@ returns-then-theirs-mine c =
     above_by_head c.args.self.now c.args.other.now c.head-mine.result c.head-theirs.result c.head-mine.ensures.value
     c.head-theirs.ensures.value c.head-mine.ensures.digits c.head-theirs.ensures.digits c.if-theirs-mine.true
 
-pub returns-then-len-eq-USUAL_DIGITS-2 : goal.returns-then-len-eq-USUAL_DIGITS-2
-returns-then-len-eq-USUAL_DIGITS-2 c =
+pub returns-then-are_heads : goal.returns-then-are_heads
+returns-then-are_heads c =
+    let both = c.if-are_heads.ensures in
     same_by_head c.args.self.now c.args.other.now c.head-mine.result c.head-theirs.result c.head-mine.ensures.value
-    c.head-theirs.ensures.value c.head-mine.ensures.digits c.head-theirs.ensures.digits (omega (arith, c.len.ensures.value))
-    (omega (arith, c.len-then-len-eq-USUAL_DIGITS.ensures.value)) (omega arith)
+    c.head-theirs.ensures.value c.head-mine.ensures.digits c.head-theirs.ensures.digits both.0 both.1 (omega arith)
