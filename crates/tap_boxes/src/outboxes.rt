@@ -90,8 +90,11 @@ impl Outboxes {
         ensures sorted { IfOk result (λ packets. AllPairs (λ a b. a.frame ≤ b.frame) packets.items) }
     {
         let mut packets = Vec::new(alloc);
+        let mut list = Vec::new(alloc);
         for (name, outbox) in &self.boxes {
-            gather_from(alloc, name, outbox, &mut packets)?;
+            list.clear();
+            outbox.gather(&mut list)?;
+            add_packets(name, &list, &mut packets)?;
         }
         packets.sort_unstable_by_key(|packet| packet.frame);
         Ok(packets)
@@ -120,19 +123,12 @@ fn send_from(
     Ok(seq)
 }
 
-// Adds a data packet for each frame that the outbox of this name keeps.
-fn gather_from(
-    alloc: Global,
-    name: &Name,
-    outbox: &Outbox,
-    packets: &mut Vec<Packet>,
-) -> Result<(), NoMemory>
-    ensures { OnOk result (packets.new.items ≡ packets.old.items ++ map (data_packet_of name.now) outbox.now.awaits) }
+// Adds a data packet for each of these frames, which the outbox of this name keeps.
+fn add_packets(name: &Name, list: &[Await], packets: &mut Vec<Packet>) -> Result<(), NoMemory>
+    ensures { OnOk result (packets.new.items ≡ packets.old.items ++ map (data_packet_of name.now) list.now) }
 {
-    let mut list = Vec::new(alloc);
-    outbox.gather(&mut list)?;
     packets.reserve(list.len())?;
-    for item in &list {
+    for item in list {
         packets.push_reserved(data_packet_of(name, item));
     }
     Ok(())

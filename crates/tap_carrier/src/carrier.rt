@@ -20,7 +20,7 @@ ghost use Rattle.tap_carrier.specs.Sending.{HasDropped, HasPut, RemarksAll, ack_
 
 use std::alloc::Global;
 use std::marker::Model;
-use tap_boxes::Boxes;
+use tap_boxes::{Boxes, NoMemory};
 use tap_carry::{Numbered, Packet};
 use tap_log::Record;
 use tap_scenario::Step;
@@ -115,8 +115,9 @@ impl Carrier {
         ensures { RemarksAll (put_record self.old packet ∷ []) (HasPut packet self.old self.new) world.old result world.new }
     {
         let Packet { frame, ack, .. } = packet;
-        let Ok(number) = self.boxes.put(packet) else {
-            return Err(Stop::NoMemory);
+        let number = match self.boxes.put(packet) {
+            Ok(number) => number,
+            Err(NoMemory) => return Err(Stop::NoMemory),
         };
         if self.resending {
             self.resent += 1;
@@ -216,10 +217,10 @@ impl Carrier {
         ensures same { self.new ≡ record self.old { boxes = self.new.boxes } }
         ensures memory { IfErr result (λ stop. stop ≡ Stop.NoMemory) }
     {
-        let Ok(first) = self.boxes.arrived(packet) else {
-            return Err(Stop::NoMemory);
-        };
-        Ok(first)
+        match self.boxes.arrived(packet) {
+            Ok(first) => Ok(first),
+            Err(NoMemory) => Err(Stop::NoMemory),
+        }
     }
 
     /// Makes the packet that acknowledges the frame of a data packet. The one refusal is `NoMemory`.
@@ -261,8 +262,9 @@ impl Carrier {
         ensures { RemarksAll (tick_group (whole_log world.old))
             (KeepsLog world.old.beginning.settings (whole_log world.new) self.new) world.old result world.new }
     {
-        let Ok(packets) = self.boxes.gather() else {
-            return Err(Stop::NoMemory);
+        let packets = match self.boxes.gather() {
+            Ok(packets) => packets,
+            Err(NoMemory) => return Err(Stop::NoMemory),
         };
         world.remark(Record::Ticked)?;
         for packet in &packets {

@@ -9,6 +9,7 @@ ghost use Rattle.tap_engine.specs.World.{whole_log};
 ghost use Rattle.tap_carrier.specs.Sending.{HasCarried, HasHead, IsFrameOf, IsToCarry, RemarksAll, packets_since, put_record};
 
 use crate::carrier::Carrier;
+use tap_boxes::NoMemory;
 use tap_carry::Packet;
 use tap_log::Record;
 use tap_name::{Name, Settings};
@@ -81,8 +82,9 @@ impl Carrier {
         ensures { RemarksAll (put_record self.old (packet_to_send self.old.boxes sending.from sending.to sending.number) ∷ []) (HasCarried sending self.old self.new)
             world.old result world.new }
     {
-        let Ok(packet) = self.boxes.send(sending.from, sending.to, sending.number) else {
-            return Err(Stop::NoMemory);
+        let packet = match self.boxes.send(sending.from, sending.to, sending.number) {
+            Ok(packet) => packet,
+            Err(NoMemory) => return Err(Stop::NoMemory),
         };
         self.put(world, packet)
     }

@@ -3,6 +3,4 @@ mod Kept
 mod Ways
 mod Gaps
 mod Arrivals
-mod Inverse
-mod Sending
 mod Awaits

@@ -1,10 +1,7 @@
 -- Names, and pairs of a name and a number, as keys: a query finds a key exactly if they are the same.
-use Rattle.std.proofs.Common.{◌≡◌, ◌==◌, ℕ, true, false, Bool, nat_eq, ◌&&◌, List, Option, Some, unwrap_or, refl, sym, ap, ◌∙◌, cond, if◌then◌else◌}
+use Rattle.std.proofs.Common.{◌≡◌, ℕ, true, false, Bool, nat_eq, ◌&&◌, List, Option, Some, unwrap_or, refl, sym, ap, ◌∙◌, cond, true≢false, if◌then◌else◌}
 use Rattle.std.specs.List.{list_any}
 use Rattle.std.specs.Map.{lookup}
-use Rattle.std.specs.Ordering.{nat_cmp}
-use Rattle.std.specs.BTreeMap.{is_at}
-use Rattle.std.specs.Cmp.{unsigned_tied}
 use Rattle.std.specs.Cmp.Lexicographic.{same_text}
 use Rattle.std.proofs.lemmas.Cmp.{nat_list_eq_equiv}
 use Rattle.std.proofs.lemmas.Bool.{and_parts, eqb-true, eq-eqb}
@@ -34,16 +31,6 @@ pub pair-updated : (before after : List (List ℕ × ℕ)) (name : List ℕ) (nu
     → (x : List ℕ) (k : ℕ) → has_pair after x k ≡ cond (is_same name number x k) there (has_pair before x k)
 pair-updated before after name number there updates x k = updates (x, k)
 
--- the same for numbers as keys
-pub frame_at : (n m : ℕ) → is_at (nat_cmp n) m ≡ (n == m)
-frame_at n m = unsigned_tied n m
-
-pub same_frame : (n m : ℕ) → is_at (nat_cmp n) m ≡ true → n ≡ m
-same_frame n m e = eqb-true n m (sym (frame_at n m) ∙ e)
-
-pub frame-itself : (n : ℕ) → is_at (nat_cmp n) n ≡ true
-frame-itself n = frame_at n n ∙ eq-eqb n n refl
-
 -- two pairs that are the same are one
 pub one_pair : (x : List ℕ) (k : ℕ) (y : List ℕ) (m : ℕ) → is_same x k y m ≡ true → (x ≡ y) × (k ≡ m)
 one_pair x k y m e = let both = and_parts (is_name x y) (nat_eq k m) e in (same_name x y both.0, eqb-true k m both.1)
@@ -51,8 +38,18 @@ one_pair x k y m e = let both = and_parts (is_name x y) (nat_eq k m) e in (same_
 pub pair-itself : (x : List ℕ) (k : ℕ) → is_same x k x k ≡ true
 pair-itself x k = λ i. name-itself x i && eq-eqb k k refl i
 
-pub same_way : (w v : List ℕ × ℕ) → is_same_way w v ≡ true → w ≡ v
-same_way w v e = let both = one_pair w.0 w.1 v.0 v.1 e in λ i. (both.0 i, both.1 i)
-
-pub way-itself : (w : List ℕ × ℕ) → is_same_way w w ≡ true
-way-itself w = pair-itself w.0 w.1
+-- either way round
+pub same-turned : (x : List ℕ) (k : ℕ) (y : List ℕ) (m : ℕ) → is_same x k y m ≡ is_same y m x k
+same-turned x k y m = by (is_same x k y m) refl (is_same y m x k) refl
+  where
+    by : (p : Bool) → is_same x k y m ≡ p → (q : Bool) → is_same y m x k ≡ q → p ≡ q
+    by true e true f = refl
+    by false e false f = refl
+    by true e false f =
+        let one = one_pair x k y m e in
+        let there : is_same y m x k ≡ true = rw (one.0, one.1) (pair-itself y m) in
+        absurd (true≢false (sym there ∙ f))
+    by false e true f =
+        let one = one_pair y m x k f in
+        let there : is_same x k y m ≡ true = rw (one.0, one.1) (pair-itself x k) in
+        absurd (true≢false (sym there ∙ e))

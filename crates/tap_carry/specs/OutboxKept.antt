@@ -1,26 +1,28 @@
--- What the maps of an outbox keep.
-use Rattle.std.specs.Prelude.{◌≡◌, ℕ, ◌<◌, ◌≤◌, List, map, Option, Some}
-use Rattle.std.specs.Ordering.{nat_cmp}
-use Rattle.std.specs.BTreeMap.{BTreeMap, IsOrdered, get}
-use Rattle.indexmap.specs.IndexMap.{IndexMap, get as frame_of}
+-- What an outbox keeps.
+use Rattle.std.specs.Prelude.{◌≡◌, ℕ, ◌≤◌, Bool, true, ◌⊎◌, List, filter, length}
+use Rattle.std.specs.List.{list_any}
 use Rattle.tap_carry.specs.declared.outbox.Await.{Await}
-use Rattle.tap_carry.specs.Names.{is_same_way, number_of}
-use Rattle.tap_carry.specs.Outbox.{await_with, most_frames}
+use Rattle.tap_carry.specs.Inbox.{has_pair}
+use Rattle.tap_carry.specs.Names.{number_of}
+use Rattle.tap_carry.specs.Outbox.{AreAwaiting, is_await, most_frames}
 
--- what awaits, by the receiver and the number of each frame
-abbrev pub awaits_of : List (ℕ × (List ℕ × ℕ)) → List Await
-awaits_of ways = map (λ e. await_with e.1.0 e.1.1 e.0) ways
+-- whether the receiver and the number of a frame are among these
+abbrev pub is_among : List (List ℕ × ℕ) → Await → Bool
+is_among ways item = has_pair ways item.to item.seq
 
--- each of two maps is the other one the other way round
-abbrev pub AreInverse : {A B : Type 0} → (A → Option B) → (B → Option A) → Type 0
-AreInverse {A} {B} f g = (a : A) (b : B) → (f a ≡ Some b → g b ≡ Some a) × (g b ≡ Some a → f a ≡ Some b)
+-- what awaits: of the frames that were sent those whose receiver and number are among these
+abbrev pub awaits_of : List Await → List (List ℕ × ℕ) → List Await
+awaits_of sent ways = filter (is_among ways) sent
 
--- One map, ordered by frame, has the receiver and the number of each frame that awaits, and the other the frame of each of these. Each
--- number was given, and no more were given for a receiver than frames may have been sent.
-pub record IsOutbox {S : Type 0} (ways : BTreeMap ℕ (List ℕ × ℕ)) (frames : IndexMap (List ℕ × ℕ) ℕ S) (last : List (List ℕ × ℕ)) (next : ℕ) : Type 0 where
-  pub ordered : IsOrdered nat_cmp ways
-  pub inverse : AreInverse (get nat_cmp ways) (frame_of is_same_way frames)
-  pub sent : (frame : ℕ) (way : List ℕ × ℕ) → get nat_cmp ways frame ≡ Some way
-      → (frame < next) × (1 ≤ way.1) × (way.1 ≤ number_of last way.0)
+-- of what was sent all is kept, or all that awaits
+abbrev pub LeavesOut : List (List ℕ × ℕ) → List Await → List Await → Type 0
+LeavesOut ways before after = (after ≡ before) ⊎ (after ≡ awaits_of before ways)
+
+-- Frames that were sent ascend, with numbers that were given, and no two have one receiver and one number. What awaits was sent, each
+-- once. No more numbers were given for a receiver than frames may have been sent.
+pub record IsOutbox (sent : List Await) (ways last : List (List ℕ × ℕ)) (next : ℕ) : Type 0 where
+  pub valid : AreAwaiting (record { awaits = sent; last = last; next = next })
+  pub there : (to : List ℕ) (seq : ℕ) → has_pair ways to seq ≡ true → list_any (is_await to seq) sent ≡ true
+  pub counted : length ways ≡ length (awaits_of sent ways)
   pub few : (to : List ℕ) → number_of last to ≤ next
   pub most : next ≤ most_frames

@@ -85,6 +85,9 @@ fn pass(beyond: &mut IndexSet<(Name, u32)>, from: Name, seq: u32) -> u32
     ensures passed { ArePassed beyond.old.keys beyond.new.keys from seq result }
     ensures gap { has_pair beyond.new.keys from (result + 1) ≡ false }
 {
+    if beyond.is_empty() {
+        return seq;
+    }
     for end in seq..u32::MAX {
         if !beyond.swap_remove(&(from, end + 1)) {
             return end;

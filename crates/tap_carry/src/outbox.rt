@@ -1,13 +1,13 @@
 ghost use Rattle.std.specs.Prelude.{◌≡◌, ◌+◌, ◌<◌, ◌≤◌, ◌&&◌, ◌||◌, [], ◌++◌, List, ℕ, length, not, slice_get, IfOk, OnOk, OnErr};
 ghost use Rattle.std.specs.Bool.{OnFalse};
 ghost use Rattle.tap_carry.specs.Names.{is_same};
-ghost use Rattle.tap_carry.specs.Outbox.{AreAwaiting, SendsTo, acked_by, await_with, awaits_one, last_to, most_frames};
+ghost use Rattle.tap_carry.specs.Outbox.{AreAwaiting, SendsTo, acked_by, awaits_one, last_to, most_frames};
+ghost use Rattle.tap_carry.specs.OutboxKept.{LeavesOut, awaits_of, is_among};
 
 use crate::memory::NoMemory;
-use crate::numbers::number_in;
-use indexmap::IndexMap;
+use crate::numbers::next_number;
+use indexmap::{IndexMap, IndexSet};
 use std::alloc::Global;
-use std::collections::BTreeMap;
 use std::marker::Model;
 use tap_name::Name;
 
@@ -34,16 +34,17 @@ pub struct Await {
 /// Contracts see what awaits, ascending by frame, the last number for each receiver, and the least frame that may be
 /// sent.
 ///
-/// What awaits lies in a tree by frame, and the frames in a hash map by receiver and number. So a call takes time that
-/// grows with the logarithm of how many frames await, and memory is kept for these and the receivers alone.
+/// What was sent lies in a list, by frame, and the receivers and numbers of what awaits in a hash set. What no longer awaits is left out of
+/// the list once it is most of it, so the list has at most twice what awaits, and three more. Over all calls, to send or to acknowledge takes
+/// constant time; to look at what awaits takes a pass over the list.
 ///
 /// Rule: docs/PROTOCOL.md, "Packets".
 #[derive(Drop)]
 pub struct Outbox {
+    // Frames that were sent, ascending. Those await whose receiver and number are among `ways`.
+    sent: Vec<Await>,
     // The receiver and the number of each frame that awaits.
-    ways: BTreeMap<u32, (Name, u32)>,
-    // The frame of each of these.
-    frames: IndexMap<(Name, u32), u32>,
+    ways: IndexSet<(Name, u32)>,
     // The last number for each receiver.
     last: IndexMap<Name, u32>,
     next: u32,
@@ -56,9 +57,9 @@ impl Model for Outbox {
 
     ghost use Rattle.tap_carry.specs.OutboxKept.{IsOutbox, awaits_of};
 
-    ghost view = { λ o. record { awaits = awaits_of o.ways.entries; last = o.last.entries; next = o.next } };
+    ghost view = { λ o. record { awaits = awaits_of o.sent.items o.ways.keys; last = o.last.entries; next = o.next } };
 
-    ghost invariant = { λ o. IsOutbox o.ways o.frames o.last.entries o.next };
+    ghost invariant = { λ o. IsOutbox o.sent.items o.ways.keys o.last.entries o.next };
 }
 
 impl Outbox {
@@ -67,8 +68,8 @@ impl Outbox {
         ensures { result ≡ record { awaits = []; last = []; next = 0 } }
     {
         Outbox {
-            ways: BTreeMap::new(alloc),
-            frames: IndexMap::new(alloc),
+            sent: Vec::new(alloc),
+            ways: IndexSet::new(alloc),
             last: IndexMap::new(alloc),
             next: 0,
         }
@@ -94,18 +95,11 @@ impl Outbox {
             (awaits_one self.old x k || is_same to (last_to self.old to + 1) x k)) }
         ensures err { OnErr result (self.new ≡ self.old) }
     {
-        let last = number_in(&self.last, &to);
-        let seq = last + 1;
-        self.frames.insert((to, seq), frame)?;
-        let Ok(_) = self.ways.insert(frame, (to, seq)) else {
-            let _ = self.frames.swap_remove(&(to, seq));
-            return Err(NoMemory);
-        };
-        let Ok(_) = self.last.insert(to, seq) else {
-            let _ = self.ways.remove(&frame);
-            let _ = self.frames.swap_remove(&(to, seq));
-            return Err(NoMemory);
-        };
+        self.sent.reserve(1)?;
+        self.ways.reserve(1)?;
+        let seq = next_number(&mut self.last, to)?;
+        let _ = self.ways.insert((to, seq))?;
+        self.sent.push_reserved(Await { to, seq, frame });
         self.next = frame + 1;
         Ok(seq)
     }
@@ -119,13 +113,9 @@ impl Outbox {
             awaits_one self.new x k ≡ (awaits_one self.old x k && not (is_same from seq x k)) }
         ensures same { OnFalse result (self.new ≡ self.old) }
     {
-        match self.frames.swap_remove(&(from, seq)) {
-            Some(frame) => {
-                let _ = self.ways.remove(&frame);
-                true
-            }
-            None => false,
-        }
+        let awaited = self.ways.swap_remove(&(from, seq));
+        leave_out(&mut self.sent, &self.ways);
+        awaited
     }
 
     /// How many frames await their acknowledgement.
@@ -142,8 +132,7 @@ impl Outbox {
         requires { i < length self.now.awaits }
         ensures { slice_get self.now.awaits i ≡ Some result }
     {
-        let (frame, way) = self.ways.iter().nth(i).unwrap();
-        await_of(*frame, way)
+        await_in(&self.sent, &self.ways, i)
     }
 
     /// Adds all that await to the end of a list, ascending by frame. A refused call adds nothing.
@@ -152,20 +141,48 @@ impl Outbox {
         ensures err { OnErr result (list.new.items ≡ list.old.items) }
     {
         list.reserve(self.ways.len())?;
-        for (frame, way) in &self.ways {
-            list.push_reserved(await_of(*frame, way));
+        for item in &self.sent {
+            if is_among(&self.ways, item) {
+                list.push_reserved(*item);
+            }
         }
         Ok(())
     }
 }
 
-// What awaits as this frame, with its receiver and number.
-fn await_of(frame: u32, way: &(Name, u32)) -> Await
-    ensures { result ≡ await_with way.now.0 way.now.1 frame }
+// Whether a frame that was sent still awaits.
+fn is_among(ways: &IndexSet<(Name, u32)>, item: &Await) -> bool
+    ensures { result ≡ is_among ways.now.keys item.now }
 {
-    Await {
-        to: way.0,
-        seq: way.1,
-        frame,
+    ways.contains(&(item.to, item.seq))
+}
+
+// What awaits at a place.
+fn await_in(sent: &[Await], ways: &IndexSet<(Name, u32)>, i: usize) -> Await
+    requires { i < length (awaits_of sent.now ways.now.keys) }
+    ensures { slice_get (awaits_of sent.now ways.now.keys) i ≡ Some result }
+{
+    let mut left = i;
+    for item in sent {
+        if is_among(ways, item) {
+            if left == 0 {
+                return *item;
+            }
+            left -= 1;
+        }
+    }
+    unreachable!()
+}
+
+// Leaves out what no longer awaits, if that is most of what was sent or all of it.
+fn leave_out(sent: &mut Vec<Await>, ways: &IndexSet<(Name, u32)>)
+    ensures { LeavesOut ways.now.keys sent.old.items sent.new.items }
+{
+    if ways.is_empty() {
+        sent.clear();
+        return;
+    }
+    if sent.len() / 2 > ways.len() + 1 {
+        sent.retain(|item| is_among(ways, item));
     }
 }

@@ -81,6 +81,22 @@ fn an_outbox_keeps_what_awaits(rt: HostRuntime) -> Result<(), Fail> {
     Ok(())
 }
 
+// What was acknowledged is left out as acknowledgements come, and what awaits stays in its order.
+#[test]
+fn an_outbox_leaves_out_what_was_acknowledged(rt: HostRuntime) -> Result<(), Fail> {
+    let one = name_of(&[3, 0])?;
+    let mut outbox = Outbox::new(rt.alloc());
+    for frame in 0..200 {
+        assert_eq!(rt; send(&mut outbox, one, frame)?, frame + 1);
+        if frame % 50 > 0 {
+            assert!(rt; outbox.acked(one, frame + 1));
+        }
+    }
+    let frames = frames_of(rt.alloc(), &outbox)?;
+    assert!(rt; frames.as_slice() == [0, 50, 100, 150].as_slice());
+    Ok(())
+}
+
 // A number of a sender arrives for the first time once, in whatever order.
 #[test]
 fn an_inbox_tells_first_arrivals(rt: HostRuntime) -> Result<(), Fail> {

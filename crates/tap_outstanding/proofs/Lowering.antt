@@ -4,9 +4,9 @@ use Rattle.std.specs.Vec.{vec_len, vec_capacity}
 use Rattle.std.proofs.lemmas.Bool.{cases_order}
 use Rattle.std.proofs.lemmas.List.{get_or-set_other, length-set, set_past}
 use Rattle.std.proofs.lemmas.List.Elements.{All-set}
-use Rattle.tap_outstanding.specs.Levels.{IsSummary, level, IsTower, HaveRoom}
+use Rattle.tap_outstanding.specs.Levels.{IsSummary, level, IsTower, HaveRoom, count_at}
 use Rattle.tap_outstanding.proofs.Sums.{below, below-lt, below-ge, sum-lowered}
-use Rattle.tap_outstanding.proofs.Towers.{summary-count, level-of, level-set_same, level-set_other, level-same, along, index_at, index-past, index-count}
+use Rattle.tap_outstanding.proofs.Towers.{summary-count, level-of, level-set_same, level-set_other, level-same, along, index-past, index-count}
 
 -- a place is below another among the blocks of sixteen exactly if it is below the first of that block
 below-blocks : (at i : ℕ) → below (at / 16) i ≡ below at (16 * i)
@@ -72,9 +72,9 @@ summary-lowered lower upper at s some = elim (cases_order (at / 16) (length uppe
 
 -- a loop over the sums, after a mark was taken away, that has lowered those of the first `m` levels
 pub record IsLoweredUpTo {A : Type 0} (start now : List (Vec ℕ A)) (number m at : ℕ) : Type 0 where
-  pub place : at ≡ index_at number (suc m)
+  pub place : at ≡ count_at number (suc m)
   pub size : length now ≡ length start
-  pub done : (j : ℕ) → j < m → level [] now (suc j) ≡ one_less (level [] start (suc j)) (index_at number (suc j))
+  pub done : (j : ℕ) → j < m → level [] now (suc j) ≡ one_less (level [] start (suc j)) (count_at number (suc j))
   pub rest : (j : ℕ) (d : Vec ℕ A) → m ≤ j → get_or now j d ≡ get_or start j d
   pub room : (room : ℕ) → HaveRoom start room → HaveRoom now room
 
@@ -108,7 +108,7 @@ module _ {A : Type 0} (start : List (Vec ℕ A)) (number : ℕ) where
         place = ap (λ (n : ℕ). n / 16) place;
         size = length-set now m w ∙ size;
         done = λ j lt. elim (cases_order j m) [
-          | inl here ↦ subst (λ (k : ℕ). level [] (set now m w) (suc k) ≡ one_less (level [] start (suc k)) (index_at number (suc k))) (sym here)
+          | inl here ↦ subst (λ (k : ℕ). level [] (set now m w) (suc k) ≡ one_less (level [] start (suc k)) (count_at number (suc k))) (sym here)
               (level-set_same [] now m w within ∙ items ∙ ap (λ (xs : List ℕ). one_less xs at) (sym was)
               ∙ ap (λ (k : ℕ). one_less (level [] start (suc m)) k) place)
           | inr (inl before) ↦ level-set_other [] now m j w (λ here. absurd (omega arith)) ∙ s.done j before
@@ -123,29 +123,29 @@ module _ {A : Type 0} (start : List (Vec ℕ A)) (number : ℕ) where
 
 module _ {A : Type 0} (marks : List ℕ) (start now : List (Vec ℕ A)) (number m at : ℕ) (tower : IsTower marks start)
     (mark : get_or marks number 0 ≡ 1) (s : IsLoweredUpTo start now number m at) where
-  some-at : (j : ℕ) → j < 8 → index_at number j < length (level marks start j) → 1 ≤ get_or (level marks start j) (index_at number j) 0
+  some-at : (j : ℕ) → j < 8 → count_at number j < length (level marks start j) → 1 ≤ get_or (level marks start j) (count_at number j) 0
   some-at j lt within = index-count marks start tower number j (omega arith) lt within
 
   -- each level is lowered, be it that a level has no count of the number or that all are done
   lowered-at : (m < 7 → length (level marks start (suc m)) ≤ at) → (j : ℕ) → j < 7
-      → level [] now (suc j) ≡ one_less (level marks start (suc j)) (index_at number (suc j))
+      → level [] now (suc j) ≡ one_less (level marks start (suc j)) (count_at number (suc j))
   lowered-at past j lt = elim (cases_order j m) [
     | inl here ↦ unchanged (omega arith)
     | inr (inl before) ↦ s.done j before
     | inr (inr after) ↦ unchanged (omega arith)
   ]
     where
-      unchanged : m ≤ j → level [] now (suc j) ≡ one_less (level marks start (suc j)) (index_at number (suc j))
+      unchanged : m ≤ j → level [] now (suc j) ≡ one_less (level marks start (suc j)) (count_at number (suc j))
       unchanged le =
           let height = tower.height in
           let place = s.place in
           let first = past (omega arith) in
           let beyond = index-past marks start tower number (suc m) (suc j) (omega arith) (omega arith) (omega arith) in
           level-same marks [] start now j s.size (omega arith) (λ d. s.rest j d (omega arith))
-          ∙ sym (set_past (level marks start (suc j)) (index_at number (suc j)) (get_or (level marks start (suc j)) (index_at number (suc j)) 0 - 1) beyond)
+          ∙ sym (set_past (level marks start (suc j)) (count_at number (suc j)) (get_or (level marks start (suc j)) (count_at number (suc j)) 0 - 1) beyond)
 
   lowered-each : (marks' : List ℕ) → marks' ≡ set marks number 0 → (m < 7 → length (level marks start (suc m)) ≤ at) → (j : ℕ) → j < 8
-      → level marks' now j ≡ one_less (level marks start j) (index_at number j)
+      → level marks' now j ≡ one_less (level marks start j) (count_at number j)
   lowered-each marks' is past zero lt = let none : 0 ≡ get_or marks number 0 - 1 = omega arith in is ∙ ap (λ (x : ℕ). set marks number x) none
   lowered-each marks' is past (suc j) lt = lowered-at past j (omega arith)
 
@@ -155,7 +155,7 @@ module _ {A : Type 0} (marks : List ℕ) (start now : List (Vec ℕ A)) (number 
     few = omega (arith, ap (λ (xs : List ℕ). length xs) is, length-set marks number 0, tower.few);
     ones = subst (λ (xs : List ℕ). All (λ x. x ≤ 1) xs) (sym is) (All-set (λ x. x ≤ 1) marks number 0 (omega arith) tower.ones);
     summary = λ j lt. along _ _ _ _ (lowered-each marks' is past j (omega arith)) (lowered-each marks' is past (suc j) (omega arith))
-        (summary-lowered (level marks start j) (level marks start (suc j)) (index_at number j) (tower.summary j lt) (some-at j (omega arith)));
+        (summary-lowered (level marks start j) (level marks start (suc j)) (count_at number j) (tower.summary j lt) (some-at j (omega arith)));
   }
 
 module _ {A : Type 0} (marks : List ℕ) (start now : List (Vec ℕ A)) (number m at : ℕ) (tower : IsTower marks start)

@@ -3,14 +3,14 @@ use Rattle.std.proofs.Common.{◌≡◌, ℕ, zero, suc, ◌+◌, ◌*◌, ◌/�
 use Rattle.std.specs.List.{sum}
 use Rattle.std.proofs.lemmas.Bool.{cases_order}
 use Rattle.std.proofs.lemmas.List.Sums.{sum_by-take-le}
-use Rattle.tap_outstanding.specs.Levels.{sum_before, level, IsTower}
+use Rattle.tap_outstanding.specs.Levels.{sum_before, level, IsTower, count_at}
 use Rattle.tap_outstanding.proofs.Sums.{sum-nothing, sum-monotone}
 use Rattle.tap_outstanding.proofs.Towers.{level-of, level-past, level-size, few, top}
 
 -- where a search for a place goes on in level `j`
 pub record IsSpot {A : Type 0} (marks : List ℕ) (sums : List (Vec ℕ A)) (place j at left : ℕ) : Type 0 where
-  pub within : 16 * at ≤ length (level marks sums j)
-  pub reached : sum_before (level marks sums j) (16 * at) + left ≡ place
+  pub within : at ≤ length (level marks sums j)
+  pub reached : sum_before (level marks sums j) at + left ≡ place
 
 -- a loop that has counted what stands before a number, but for the counts before `at` of level `m + 1`
 pub record IsRanked {A : Type 0} (marks : List ℕ) (sums : List (Vec ℕ A)) (number m at place : ℕ) : Type 0 where
@@ -18,19 +18,43 @@ pub record IsRanked {A : Type 0} (marks : List ℕ) (sums : List (Vec ℕ A)) (n
   pub within : m < 7 → at ≤ length (level marks sums (suc m))
 
 module _ {A : Type 0} (marks : List ℕ) (sums : List (Vec ℕ A)) (tower : IsTower marks sums) where
+  -- where no mark stands before a number, nothing is counted before its place in a level
+  low-within : (low j : ℕ) → low ≤ length marks → j ≤ 7 → count_at low j ≤ length (level marks sums j)
+  low-within low zero inside le = inside
+  low-within low (suc j) inside le =
+      let size = level-size marks sums tower j (omega arith) in
+      omega (arith, size, low-within low j inside (omega arith))
+
+  low-none : (low j : ℕ) → low ≤ length marks → sum_before marks low ≡ 0 → j ≤ 7 → sum_before (level marks sums j) (count_at low j) ≡ 0
+  low-none low zero inside none le = none
+  low-none low (suc j) inside none le =
+      let within = low-within low (suc j) inside le in
+      let up = (tower.summary j (omega arith)).sums (count_at low (suc j)) within in
+      let under = sum-monotone (level marks sums j) (16 * count_at low (suc j)) (count_at low j) (omega arith) in
+      omega (arith, up, under, low-none low j inside none (omega arith))
+
+  pub spot-first : (low place j at : ℕ) → low ≤ length marks → sum_before marks low ≡ 0 → j ≤ 7 → at ≡ count_at low j
+      → IsSpot marks sums place j at place
+  spot-first low place j at inside none le is =
+      let here = ap (λ (i : ℕ). sum_before (level marks sums j) i) is in
+      record {
+        within = omega (arith, is, low-within low j inside le);
+        reached = omega (arith, here, low-none low j inside none le);
+      }
+
   pub spot-within : (place height at left : ℕ) (d : Vec ℕ A) → height ≤ 7 → 0 < height → IsSpot marks sums place height at left
-      → 16 * at ≤ length (get_or sums (height - 1) d).items
+      → at ≤ length (get_or sums (height - 1) d).items
   spot-within place zero at left d le pos spot = absurd (omega arith)
   spot-within place (suc i) at left d le pos spot =
       let height = tower.height in
       let e : suc i - 1 ≡ i = omega arith in
-      subst (λ (k : ℕ). 16 * at ≤ length (get_or sums k d).items) (sym e)
-      (subst (λ (xs : List ℕ). 16 * at ≤ length xs) (level-of marks sums i d (omega arith)) spot.within)
+      subst (λ (k : ℕ). at ≤ length (get_or sums k d).items) (sym e)
+      (subst (λ (xs : List ℕ). at ≤ length xs) (level-of marks sums i d (omega arith)) spot.within)
 
   pub spot-next : (place height at left at' left' : ℕ) (d : Vec ℕ A) → height ≤ 7 → 0 < height → IsSpot marks sums place height at left
       → at' ≤ length (get_or sums (height - 1) d).items
-      → sum_before (get_or sums (height - 1) d).items at' + left' ≡ sum_before (get_or sums (height - 1) d).items (16 * at) + left
-      → IsSpot marks sums place (height - 1) at' left'
+      → sum_before (get_or sums (height - 1) d).items at' + left' ≡ sum_before (get_or sums (height - 1) d).items at + left
+      → IsSpot marks sums place (height - 1) (at' * 16) left'
   spot-next place zero at left at' left' d le pos spot within reached = absurd (omega arith)
   spot-next place (suc i) at left at' left' d le pos spot within reached =
       let height = tower.height in
@@ -39,14 +63,16 @@ module _ {A : Type 0} (marks : List ℕ) (sums : List (Vec ℕ A)) (tower : IsTo
       ap (λ (k : ℕ). (get_or sums k d).items) e ∙ sym (level-of marks sums i d (omega arith)) in
       let long = ap (λ (xs : List ℕ). length xs) here in
       let there = ap (λ (xs : List ℕ). sum_before xs at') here in
-      let from = ap (λ (xs : List ℕ). sum_before xs (16 * at)) here in
+      let from = ap (λ (xs : List ℕ). sum_before xs at) here in
       let size = level-size marks sums tower i (omega arith) in
       let was = spot.reached in
       let inside : at' ≤ length (level marks sums (suc i)) = omega arith in
       let down = (tower.summary i (omega arith)).sums at' inside in
-      subst (λ (k : ℕ). IsSpot marks sums place k at' left') (sym e) (record {
+      let turn : at' * 16 ≡ 16 * at' = omega arith in
+      let same = ap (λ (k : ℕ). sum_before (level marks sums i) k) turn in
+      subst (λ (k : ℕ). IsSpot marks sums place k (at' * 16) left') (sym e) (record {
         within = omega arith;
-        reached = omega (arith, reached, there, from, was, down);
+        reached = omega (arith, reached, there, from, was, down, same);
       })
 
   pub rank-first : (number place : ℕ) → number < length marks → sum_before marks (16 * (number / 16)) + place ≡ sum_before marks number

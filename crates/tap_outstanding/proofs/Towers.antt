@@ -4,7 +4,7 @@ use Rattle.std.specs.List.{sum}
 use Rattle.std.proofs.lemmas.Bool.{cases_order}
 use Rattle.std.proofs.lemmas.List.{get_or_past, get_or-map, get_or-set_same, get_or-set_other, length-map, map-set}
 use Rattle.std.proofs.lemmas.List.Sums.{sum_by-le, sum_by-take-le, sum_by_more}
-use Rattle.tap_outstanding.specs.Levels.{IsSummary, vector_lists, level, IsTower}
+use Rattle.tap_outstanding.specs.Levels.{IsSummary, vector_lists, level, IsTower, count_at}
 use Rattle.tap_outstanding.proofs.Sums.{sum-monotone, sum-all}
 
 -- what a count stands for is at most the count above it, if there is one
@@ -69,11 +69,6 @@ level-same marks marks' [] now j size within same = absurd (omega arith)
 level-same {A = A} marks marks' (v ∷ vs) now j size within same =
     level-of marks' now j v (omega arith) ∙ ap (λ (w : Vec ℕ A). w.items) (same v) ∙ sym (level-of marks (v ∷ vs) j v within)
 
--- the place of a number's count in a level
-abbrev pub index_at : ℕ → ℕ → ℕ
-index_at number zero = number
-index_at number (suc j) = index_at number j / 16
-
 module _ {A : Type 0} (marks : List ℕ) (sums : List (Vec ℕ A)) (tower : IsTower marks sums) where
   pub level-size : (j : ℕ) → j < 7 → length (level marks sums (suc j)) ≡ length (level marks sums j) / 16
   level-size j lt = (tower.summary j lt).size
@@ -99,22 +94,22 @@ module _ {A : Type 0} (marks : List ℕ) (sums : List (Vec ℕ A)) (tower : IsTo
       )
 
   -- a number whose sixteen isn't whole in one level has no count in those above
-  pub index-past : (number j k : ℕ) → j ≤ k → k < 8 → length (level marks sums j) ≤ index_at number j
-      → length (level marks sums k) ≤ index_at number k
-  index-past number j zero le lt past = let e : j ≡ 0 = omega arith in subst (λ (i : ℕ). length (level marks sums i) ≤ index_at number i) e past
+  pub index-past : (number j k : ℕ) → j ≤ k → k < 8 → length (level marks sums j) ≤ count_at number j
+      → length (level marks sums k) ≤ count_at number k
+  index-past number j zero le lt past = let e : j ≡ 0 = omega arith in subst (λ (i : ℕ). length (level marks sums i) ≤ count_at number i) e past
   index-past number j (suc k) le lt past = elim (cases_order j (suc k)) [
-    | inl e ↦ subst (λ (i : ℕ). length (level marks sums i) ≤ index_at number i) e past
+    | inl e ↦ subst (λ (i : ℕ). length (level marks sums i) ≤ count_at number i) e past
     | inr (inl before) ↦ omega (arith, level-size k (omega arith), index-past number j k (omega arith) (omega arith) past)
     | inr (inr after) ↦ absurd (omega arith)
   ]
 
-  pub index-count : (number j : ℕ) → 1 ≤ get_or marks number 0 → j < 8 → index_at number j < length (level marks sums j)
-      → 1 ≤ get_or (level marks sums j) (index_at number j) 0
+  pub index-count : (number j : ℕ) → 1 ≤ get_or marks number 0 → j < 8 → count_at number j < length (level marks sums j)
+      → 1 ≤ get_or (level marks sums j) (count_at number j) 0
   index-count number zero some lt within = some
   index-count number (suc j) some lt within =
       let size = level-size j (omega arith) in
       let under = index-count number j some (omega arith) (omega arith) in
-      let more = summary-count (level marks sums j) (level marks sums (suc j)) (index_at number j) (tower.summary j (omega arith)) within in
+      let more = summary-count (level marks sums j) (level marks sums (suc j)) (count_at number j) (tower.summary j (omega arith)) within in
       omega (arith, under, more)
 
 -- what a mark is, if there is one

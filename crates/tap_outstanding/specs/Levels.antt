@@ -32,3 +32,8 @@ pub record IsTower {A : Type 0} (marks : List ℕ) (sums : List (Vec ℕ A)) : T
 -- each vector takes so many more counts without memory
 abbrev pub HaveRoom : {A : Type 0} → List (Vec ℕ A) → ℕ → Type 0
 HaveRoom vectors room = All (λ v. vec_len v + room ≤ vec_capacity v) vectors
+
+-- the place of a number's count in a level
+abbrev pub count_at : ℕ → ℕ → ℕ
+count_at number zero = number
+count_at number (suc j) = count_at number j / 16

@@ -1,11 +1,14 @@
 ghost use Rattle.std.specs.Prelude.{◌≡◌, ◌==◌, ◌^◌, ℕ, ◌+◌, ◌-◌, ◌<◌, ◌≤◌, ◌∷◌, ◌++◌, [], All};
 ghost use Rattle.std.specs.Prelude.{length, sum, slice_index, slice_set, OnOk, vec_len, vec_capacity};
-ghost use Rattle.tap_outstanding.specs.Levels.{HaveRoom, IsTower, sum_before, vector_lists};
+ghost use Rattle.tap_outstanding.specs.Levels.{HaveRoom, IsTower, count_at, sum_before, vector_lists};
 
 use crate::memory::NoMemory;
 
 // How many counts of a level one count of the next stands for.
 const FAN: usize = 16;
+
+// How many levels of sums there are.
+const HEIGHT: usize = 7;
 
 // A place among the counts of a level, and how many more go before what is sought.
 #[derive(Clone, Copy)]
@@ -14,26 +17,41 @@ struct Spot {
     left: u32,
 }
 
-/// The number whose mark has so many marks before it.
+// A level, from 0 for the marks, and a place among its counts.
+#[derive(Clone, Copy)]
+struct Start {
+    height: usize,
+    at: usize,
+}
+
+/// The number whose mark has so many marks before it. The search begins at the number `low`, before which no mark stands.
 #[inline(never)]
-pub(crate) fn find(marks: &[u8], sums: &[Vec<u32>], place: u32) -> usize
+pub(crate) fn find(marks: &[u8], sums: &[Vec<u32>], low: usize, place: u32) -> usize
     requires tower { IsTower marks.now sums.now }
+    requires inside { low ≤ length marks.now }
+    requires low { sum_before marks.now low ≡ 0 }
     requires within { place < sum marks.now }
     ensures within { result < length marks.now }
     ensures mark { slice_index marks.now result ≡ 1 }
     ensures place { sum_before marks.now result ≡ place }
 {
-    let mut spot = Spot { at: 0, left: place };
-    for height in (0..sums.len()).rev() {
-        spot = pass(&sums[height], FAN * spot.at, spot.left);
+    let start = start_of(low, marks.len());
+    let mut spot = Spot {
+        at: start.at,
+        left: place,
+    };
+    for height in (0..start.height).rev() {
+        spot = pass(&sums[height], spot.at, spot.left);
+        spot.at *= FAN;
     }
-    find_mark(marks, FAN * spot.at, spot.left)
+    find_mark(marks, spot.at, spot.left)
 }
 
-/// What `find` gives, if no mark stands before a number. The first mark is mostly there.
+/// What `find` gives. The first mark mostly stands at `low`.
 #[inline(always)]
 pub(crate) fn find_after(marks: &[u8], sums: &[Vec<u32>], low: usize, place: u32) -> usize
     requires tower { IsTower marks.now sums.now }
+    requires inside { low ≤ length marks.now }
     requires low { sum_before marks.now low ≡ 0 }
     requires within { place < sum marks.now }
     ensures within { result < length marks.now }
@@ -45,7 +63,26 @@ pub(crate) fn find_after(marks: &[u8], sums: &[Vec<u32>], low: usize, place: u32
             return low;
         }
     }
-    find(marks, sums, place)
+    find(marks, sums, low, place)
+}
+
+// Where a search begins that goes from one number up to another: at the lowest level at which no more than sixteen counts lie between
+// them.
+fn start_of(low: usize, end: usize) -> Start
+    requires order { low ≤ end }
+    ensures height { result.height ≤ 7 }
+    ensures at { result.at ≡ count_at low result.height }
+{
+    let mut at = low;
+    let mut last = end;
+    for height in 0..HEIGHT {
+        if last - at <= FAN {
+            return Start { height, at };
+        }
+        at /= FAN;
+        last /= FAN;
+    }
+    Start { height: HEIGHT, at }
 }
 
 // Steps over counts while as many are left, up to the end at most.

@@ -33,7 +33,8 @@ pub struct Flight {
 /// so on, each once all sixteen are there. A call goes through the levels once at most, and through at most
 /// sixteen counts of each. Nothing is moved, and some 9 bytes are kept for each frame that was sent. Before
 /// one number, which only grows, all frames are known to be taken, so that the oldest one is mostly found at
-/// once. Taking it moves that number on, which over all calls passes each frame once.
+/// once, and a search goes from there up through no more levels than the frames that were sent since then fill.
+/// Taking it moves that number on, which over all calls passes each frame once.
 ///
 /// Rule: docs/FORMATS.md, "Groups and moments".
 #[derive(Drop)]

@@ -25,8 +25,11 @@ loop-name-init c =
 
 pub loop-name-preserved : goal.loop-name-preserved
 loop-name-preserved c =
-    one_more _ c.loop-name.packets.items c.gather_from.new.packets.items c.loop-name.name-iterator c.next.new.self c.in-Some.name.now
-    c.in-Some.outbox.now c.in-Some.ensures.steps c.in_ok-gather_from.ensures c.loop-name.invariant
+    let list = c.deref.ensures.value ∙ c.in_ok-gather.ensures.all ∙ ap (λ l. l ++ c.in-Some.outbox.now.awaits) c.clear.ensures.items in
+    one_more _ c.loop-name.packets.items c.add_packets.new.packets.items c.loop-name.name-iterator c.next.new.self c.in-Some.name.now
+    c.in-Some.outbox.now c.in-Some.ensures.steps
+    (c.in_ok-add_packets.ensures ∙ ap (λ l. c.loop-name.packets.items ++ map (data_packet_of c.in-Some.name.now) l) list)
+    c.loop-name.invariant
 
 pub returns-clause-all : goal.returns-clause-all
 returns-clause-all c =

@@ -18,8 +18,8 @@ use Rattle.tap_carrier.proofs.Remarking.{all_if_ok, goes_on, remarked_one, remar
 use Rattle.tap_carrier.proofs.Ticking.{gathered, remarked_tick, room_to_tick, short_tick, tick_packets, ticked_to, ticks_none, ticks_one}
 use Rattle.tap_carrier.proofs.carrier.Carrier.tick.Goals as goal
 
-pub returns-in_default : goal.returns-in_default
-returns-in_default c =
+pub returns-in-Err : goal.returns-in-Err
+returns-in-Err c =
     let first = c.args.world.now in
     short_at_once Ticked (data_packets (whole_log first) (awaiting (whole_log first))) first
 

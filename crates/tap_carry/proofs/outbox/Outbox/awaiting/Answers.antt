@@ -3,4 +3,4 @@ use Rattle.tap_carry.proofs.outbox.Outbox.awaiting.Goals as goal
 
 pub returns-clause-valid : goal.returns-clause-valid
 returns-clause-valid c = rw (← c.self.view_is)
-    (are_awaiting c.self.inside.ways c.self.inside.frames c.self.inside.last.entries c.self.inside.next c.self.invariant)
+    (are_awaiting c.self.inside.sent.items c.self.inside.ways.keys c.self.inside.last.entries c.self.inside.next c.self.invariant)

@@ -1,69 +1,106 @@
-use Rattle.std.proofs.Common.{◌≡◌, ℕ, ◌+◌, ◌≤◌, ◌||◌, List, [], ◌∷◌, ◌++◌, refl, ap, ◌∙◌, arith, if◌then◌else◌}
+use Rattle.std.proofs.Common.{◌≡◌, ℕ, ◌+◌, ◌≤◌, true, not, ◌||◌, List, [], ◌∷◌, ◌++◌, length, inl, refl, ap, ◌∙◌, arith, if◌then◌else◌}
 use Rattle.std.specs.List.{list_any}
-use Rattle.tap_carry.specs.Names.{is_name, is_same, number_of}
+use Rattle.tap_carry.specs.Names.{is_same}
 use Rattle.tap_carry.specs.declared.outbox.Await.{Await}
 use Rattle.tap_carry.specs.Outbox.{OutboxValue, await_with, is_await}
-use Rattle.tap_carry.specs.OutboxKept.{awaits_of}
-use Rattle.tap_carry.proofs.Ways.{number-updated}
-use Rattle.tap_carry.proofs.Awaits.{Ways, awaits-sent, found-sent, keys-below, put-undone}
-use Rattle.tap_carry.proofs.Sending.{outbox-sent, outbox-undone}
+use Rattle.tap_carry.specs.OutboxKept.{IsOutbox, awaits_of}
+use Rattle.tap_carry.proofs.Ways.{pair-updated}
+use Rattle.tap_carry.proofs.Awaits.{awaits-sent, found-sent, not-among, on_err, outbox-asked, outbox-sent, value-asked}
 use Rattle.tap_carry.proofs.outbox.Outbox.send.Goals as goal
 
--- nothing was given for the frame
-pub invariant_of-self-in_default : goal.invariant_of-self-in_default
-invariant_of-self-in_default c =
-    outbox-undone c.self.inside.ways c.self.inside.frames c.self.inside.last.entries c.self.inside.next c.self.invariant
-    c.insert-2.new.self c.insert.new.self c.swap_remove.new.self c.self.inside.last.entries c.args.to (c.number_in-last.result + 1) c.args.frame
-    (ap (λ (n : ℕ). n + 1) c.number_in-last.ensures) c.in_default.ensures.err refl
-    c.in_ok-insert.ensures.updates.0 c.swap_remove.ensures.updates.0 c.insert-2.ensures.ordered
+-- memory was refused, and nothing changes
+pub invariant_of-self : goal.invariant_of-self
+invariant_of-self c =
+    outbox-asked c.self.inside.sent.items c.self.inside.ways.keys c.self.inside.last.entries c.self.inside.next c.self.invariant
+    c.self.inside.sent.items c.reserve.new.self.items c.self.inside.ways.keys c.self.inside.last.entries (inl refl) c.reserve.ensures.items refl refl
 
--- nothing was given for the receiver
-as_before : (c : goal.After-swap_remove-in_default-insert) → c.remove.new.self.entries ≡ c.self.inside.ways.entries
-as_before c =
-    let next = ap (λ (o : OutboxValue). o.next) c.self.view_is in
-    put-undone c.self.inside.ways.entries c.insert-2.new.self.entries c.remove.new.self.entries c.args.frame (c.args.to, c.number_in-last.result + 1)
-    (keys-below c.self.inside.ways c.self.inside.frames c.self.inside.last.entries c.self.inside.next c.args.frame c.self.invariant (omega (arith, c.requires.above)))
-    c.in-Ok.ensures.entries c.remove.ensures.entries
+pub returns-in_err-reserve-clause-err : goal.returns-in_err-reserve-clause-err
+returns-in_err-reserve-clause-err c = on_err c.from_residual.result
+    (value-asked c.self.inside.sent.items c.self.inside.ways.keys c.self.inside.last.entries c.self.inside.next c.self.invariant
+    c.self.inside.sent.items c.reserve.new.self.items c.self.inside.ways.keys c.self.inside.last.entries (inl refl) c.reserve.ensures.items refl refl
+    ∙ c.self.view_is)
 
-pub invariant_of-self-in_default-insert : goal.invariant_of-self-in_default-insert
-invariant_of-self-in_default-insert c =
-    outbox-undone c.self.inside.ways c.self.inside.frames c.self.inside.last.entries c.self.inside.next c.self.invariant
-    c.remove.new.self c.insert.new.self c.swap_remove-in_default-insert.new.self c.insert-3.new.self.entries c.args.to
-    (c.number_in-last.result + 1) c.args.frame (ap (λ (n : ℕ). n + 1) c.number_in-last.ensures) (as_before c) c.in_default-insert.ensures.err
-    c.in_ok-insert.ensures.updates.0 c.swap_remove-in_default-insert.ensures.updates.0 c.remove.ensures.ordered
+pub invariant_of-self-in_err-reserve-2 : goal.invariant_of-self-in_err-reserve-2
+invariant_of-self-in_err-reserve-2 c =
+    outbox-asked c.self.inside.sent.items c.self.inside.ways.keys c.self.inside.last.entries c.self.inside.next c.self.invariant
+    c.self.inside.sent.items c.reserve.new.self.items c.reserve-2.new.self.keys c.self.inside.last.entries (inl refl) c.reserve.ensures.items
+    c.reserve-2.ensures.keys refl
 
-pub returns-in_default-insert-clause-err : goal.returns-in_default-insert-clause-err
-returns-in_default-insert-clause-err c = rw (as_before c, c.in_default-insert.ensures.err) c.self.view_is
+pub returns-in_err-reserve-2-clause-err : goal.returns-in_err-reserve-2-clause-err
+returns-in_err-reserve-2-clause-err c = on_err c.from_residual-in_err-reserve-2.result
+    (value-asked c.self.inside.sent.items c.self.inside.ways.keys c.self.inside.last.entries c.self.inside.next c.self.invariant
+    c.self.inside.sent.items c.reserve.new.self.items c.reserve-2.new.self.keys c.self.inside.last.entries (inl refl) c.reserve.ensures.items
+    c.reserve-2.ensures.keys refl ∙ c.self.view_is)
+
+pub invariant_of-self-in_err-seq : goal.invariant_of-self-in_err-seq
+invariant_of-self-in_err-seq c =
+    outbox-asked c.self.inside.sent.items c.self.inside.ways.keys c.self.inside.last.entries c.self.inside.next c.self.invariant
+    c.self.inside.sent.items c.reserve.new.self.items c.reserve-2.new.self.keys c.next_number.new.numbers.entries (inl refl)
+    c.reserve.ensures.items c.reserve-2.ensures.keys c.in_err-seq.ensures.err
+
+pub returns-in_err-seq-clause-err : goal.returns-in_err-seq-clause-err
+returns-in_err-seq-clause-err c = on_err c.from_residual-in_err-seq.result
+    (value-asked c.self.inside.sent.items c.self.inside.ways.keys c.self.inside.last.entries c.self.inside.next c.self.invariant
+    c.self.inside.sent.items c.reserve.new.self.items c.reserve-2.new.self.keys c.next_number.new.numbers.entries (inl refl)
+    c.reserve.ensures.items c.reserve-2.ensures.keys c.in_err-seq.ensures.err ∙ c.self.view_is)
 
 -- the frame is sent
-above : (c : goal.After-self-1) → c.self.inside.next ≤ c.args.frame
-above c = let next = ap (λ (o : OutboxValue). o.next) c.self.view_is in omega (arith, c.requires.above)
-
 pub invariant_of-self-2 : goal.invariant_of-self-2
 invariant_of-self-2 c =
-    outbox-sent c.self.inside.ways c.self.inside.frames c.self.inside.last.entries c.self.inside.next c.self.invariant
-    c.insert-2.new.self c.insert.new.self c.insert-3.new.self.entries c.args.to (c.number_in-last.result + 1) c.args.frame
-    (ap (λ (n : ℕ). n + 1) c.number_in-last.ensures) (above c) c.requires.few c.in-Ok.ensures.updates.0 c.in_ok-insert.ensures.updates.0
-    (number-updated c.self.inside.last.entries c.insert-3.new.self.entries c.args.to (c.number_in-last.result + 1) c.in-Ok-insert.ensures.updates.0)
-    c.insert-2.ensures.ordered
-
-awaits : (c : goal.After-self-1) → awaits_of c.insert-2.new.self.entries
-    ≡ awaits_of c.self.inside.ways.entries ++ await_with c.args.to (c.number_in-last.result + 1) c.args.frame ∷ []
-awaits c =
-    ap (λ (l : Ways). awaits_of l) c.in-Ok.ensures.entries
-    ∙ awaits-sent c.self.inside.ways.entries c.args.frame (c.args.to, c.number_in-last.result + 1)
-    (keys-below c.self.inside.ways c.self.inside.frames c.self.inside.last.entries c.self.inside.next c.args.frame c.self.invariant (above c))
+    let next = ap (λ (o : OutboxValue). o.next) c.self.view_is in
+    let above : c.self.inside.next ≤ c.args.frame = omega (arith, next, c.requires.above) in
+    let asked : IsOutbox c.reserve.new.self.items c.reserve-2.new.self.keys c.self.inside.last.entries c.self.inside.next =
+    outbox-asked c.self.inside.sent.items c.self.inside.ways.keys c.self.inside.last.entries c.self.inside.next c.self.invariant
+    c.self.inside.sent.items c.reserve.new.self.items c.reserve-2.new.self.keys c.self.inside.last.entries (inl refl) c.reserve.ensures.items
+    c.reserve-2.ensures.keys refl in
+    let none = not-among c.reserve.new.self.items c.reserve-2.new.self.keys c.self.inside.last.entries c.self.inside.next asked c.args.to c.in_ok-seq.seq
+    c.args.frame c.in_ok-seq.ensures.number in
+    let added : c.in_ok-insert.field-0 ≡ true = c.in_ok-insert.ensures.added ∙ ap not none in
+    let more : length c.insert.new.self.keys ≡ length c.reserve-2.new.self.keys + 1 =
+    c.in_ok-insert.ensures.len ∙ ap (λ b. length c.reserve-2.new.self.keys + (if b then 1 else 0)) added in
+    rw c.push_reserved.ensures.items
+    (outbox-sent c.reserve.new.self.items c.reserve-2.new.self.keys c.self.inside.last.entries c.self.inside.next asked c.args.to c.in_ok-seq.seq
+    c.args.frame c.in_ok-seq.ensures.number c.insert.new.self.keys
+    (pair-updated c.reserve-2.new.self.keys c.insert.new.self.keys c.args.to c.in_ok-seq.seq true c.in_ok-insert.ensures.updates.0)
+    c.next_number.new.numbers.entries c.in_ok-seq.ensures.after above c.requires.few more)
 
 pub returns-clause-after : goal.returns-clause-after
-returns-clause-after c = rw (← c.self.view_is) (record {
-  awaits = awaits c ∙ ap (λ (n : ℕ). awaits_of c.self.inside.ways.entries ++ await_with c.args.to (n + 1) c.args.frame ∷ []) c.number_in-last.ensures;
-  last = λ x. number-updated c.self.inside.last.entries c.insert-3.new.self.entries c.args.to (c.number_in-last.result + 1) c.in-Ok-insert.ensures.updates.0 x
-      ∙ ap (λ (n : ℕ). if is_name c.args.to x then n + 1 else number_of c.self.inside.last.entries x) c.number_in-last.ensures;
-  next = refl;
-})
+returns-clause-after c =
+    let asked : IsOutbox c.reserve.new.self.items c.reserve-2.new.self.keys c.self.inside.last.entries c.self.inside.next =
+    outbox-asked c.self.inside.sent.items c.self.inside.ways.keys c.self.inside.last.entries c.self.inside.next c.self.invariant
+    c.self.inside.sent.items c.reserve.new.self.items c.reserve-2.new.self.keys c.self.inside.last.entries (inl refl) c.reserve.ensures.items
+    c.reserve-2.ensures.keys refl in
+    let same = value-asked c.self.inside.sent.items c.self.inside.ways.keys c.self.inside.last.entries c.self.inside.next c.self.invariant
+    c.self.inside.sent.items c.reserve.new.self.items c.reserve-2.new.self.keys c.self.inside.last.entries (inl refl) c.reserve.ensures.items
+    c.reserve-2.ensures.keys refl in
+    let more = awaits-sent c.reserve.new.self.items c.reserve-2.new.self.keys c.self.inside.last.entries c.self.inside.next asked c.args.to c.in_ok-seq.seq
+    c.args.frame c.in_ok-seq.ensures.number c.insert.new.self.keys
+    (pair-updated c.reserve-2.new.self.keys c.insert.new.self.keys c.args.to c.in_ok-seq.seq true c.in_ok-insert.ensures.updates.0) in
+    rw (← c.self.view_is) (record {
+      awaits = ap (λ (l : List Await). awaits_of l c.insert.new.self.keys) c.push_reserved.ensures.items
+          ∙ more
+          ∙ ap (λ (o : OutboxValue). o.awaits ++ await_with c.args.to c.in_ok-seq.seq c.args.frame ∷ []) same
+          ∙ ap (λ (n : ℕ). awaits_of c.self.inside.sent.items c.self.inside.ways.keys ++ await_with c.args.to n c.args.frame ∷ []) c.in_ok-seq.ensures.number;
+      last = λ x. c.in_ok-seq.ensures.after x;
+      next = refl;
+    })
 
 pub returns-clause-look_up : goal.returns-clause-look_up
-returns-clause-look_up c = λ x k. rw (← c.self.view_is)
-    (ap (λ (l : List Await). list_any (is_await x k) l) (awaits c)
-    ∙ found-sent (awaits_of c.self.inside.ways.entries) c.args.to (c.number_in-last.result + 1) c.args.frame x k
-    ∙ ap (λ (n : ℕ). list_any (is_await x k) (awaits_of c.self.inside.ways.entries) || is_same c.args.to (n + 1) x k) c.number_in-last.ensures)
+returns-clause-look_up c = λ x k.
+    let asked : IsOutbox c.reserve.new.self.items c.reserve-2.new.self.keys c.self.inside.last.entries c.self.inside.next =
+    outbox-asked c.self.inside.sent.items c.self.inside.ways.keys c.self.inside.last.entries c.self.inside.next c.self.invariant
+    c.self.inside.sent.items c.reserve.new.self.items c.reserve-2.new.self.keys c.self.inside.last.entries (inl refl) c.reserve.ensures.items
+    c.reserve-2.ensures.keys refl in
+    let same = value-asked c.self.inside.sent.items c.self.inside.ways.keys c.self.inside.last.entries c.self.inside.next c.self.invariant
+    c.self.inside.sent.items c.reserve.new.self.items c.reserve-2.new.self.keys c.self.inside.last.entries (inl refl) c.reserve.ensures.items
+    c.reserve-2.ensures.keys refl in
+    let more = awaits-sent c.reserve.new.self.items c.reserve-2.new.self.keys c.self.inside.last.entries c.self.inside.next asked c.args.to c.in_ok-seq.seq
+    c.args.frame c.in_ok-seq.ensures.number c.insert.new.self.keys
+    (pair-updated c.reserve-2.new.self.keys c.insert.new.self.keys c.args.to c.in_ok-seq.seq true c.in_ok-insert.ensures.updates.0) in
+    rw (← c.self.view_is)
+    (ap (λ (l : List Await). list_any (is_await x k) (awaits_of l c.insert.new.self.keys)) c.push_reserved.ensures.items
+    ∙ ap (λ (l : List Await). list_any (is_await x k) l) more
+    ∙ ap (λ (o : OutboxValue). list_any (is_await x k) (o.awaits ++ await_with c.args.to c.in_ok-seq.seq c.args.frame ∷ [])) same
+    ∙ found-sent (awaits_of c.self.inside.sent.items c.self.inside.ways.keys) c.args.to c.in_ok-seq.seq c.args.frame x k
+    ∙ ap (λ (n : ℕ). list_any (is_await x k) (awaits_of c.self.inside.sent.items c.self.inside.ways.keys) || is_same c.args.to n x k)
+    c.in_ok-seq.ensures.number)
