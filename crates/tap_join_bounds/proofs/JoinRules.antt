@@ -31,11 +31,15 @@ pub record IsPlainNode (node : NodeState) : Type 0 where
   pub goes_on : node.abandoned ≡ false
   pub pairs : node.pointers.pairs ≡ []
 
--- what a rule of joins names: a frame of a join that is no Link; and the Hello of a joining node has no links
+-- a frame of a join; and the Hello of a joining node has no links
+abbrev pub IsJoinFrame : Body → Type 0
+IsJoinFrame (Hello session core links) = core ≡ false → links ≡ []
+IsJoinFrame other = IsJoinBody other
+
+-- what a rule of joins names: such a frame that is no Link
 abbrev pub IsJoinMessage : Body → Type 0
-IsJoinMessage (Hello session core links) = core ≡ false → links ≡ []
 IsJoinMessage (Link version on) = ⊥
-IsJoinMessage other = IsJoinBody other
+IsJoinMessage other = IsJoinFrame other
 
 abbrev pub AreJoinMessages : List Message → Type 0
 AreJoinMessages messages = All (λ m. IsJoinMessage m.body) messages

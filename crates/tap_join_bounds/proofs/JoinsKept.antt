@@ -8,7 +8,7 @@ use Rattle.tap_name.specs.Settings.{SettingsValue}
 use Rattle.tap_pointer.specs.Pointers.{PointersValue}
 use Rattle.tap_pointer.specs.Reconcile.{lays_numbered, layings_to_wanted, with_wanted}
 use Rattle.tap_wire.specs.declared.frame.Body.{Body}
-use Rattle.tap_wire.specs.declared.frame.Body.TheVariants.{Heard, Hello}
+use Rattle.tap_wire.specs.declared.frame.Body.TheVariants.{Heard}
 use Rattle.tap_wire.specs.declared.frame.Frame.{Frame}
 use Rattle.tap_rule.specs.Event.{Acted}
 use Rattle.tap_rule.specs.RuleLaws.{IsCarriedOut, IsIgnored, lays_for}
@@ -28,15 +28,10 @@ use Rattle.tap_safety.specs.Frames.{hello_body}
 use Rattle.tap_safety_moves.specs.Sound.{Sound}
 use Rattle.tap_bounds.specs.Traffic.{Traffic}
 use Rattle.tap_join_bounds.specs.OfJoins.{IsJoinBody, SentAreOfJoins, joiner_named, joiner_said}
-use Rattle.tap_join_bounds.proofs.JoinRules.{AreJoinMessages, IsJoinMessage, IsJoinStep, IsPlainNode, JoinsOrIsCore}
+use Rattle.tap_join_bounds.proofs.JoinRules.{AreJoinMessages, IsJoinFrame, IsJoinMessage, IsJoinStep, IsPlainNode, JoinsOrIsCore}
 use Rattle.tap_join_bounds.proofs.Made.{IsMade}
 
 -- ---- frames
-
--- a frame of a join; and the Hello of a joining node has no links
-abbrev pub IsJoinFrame : Body → Type 0
-IsJoinFrame (Hello session core links) = core ≡ false → links ≡ []
-IsJoinFrame other = IsJoinBody other
 
 pub of_message : {body : Body} → Said body → IsJoinMessage body → IsJoinFrame body
 of_message (IsLink version on) is = tt

@@ -5,9 +5,8 @@ use Rattle.std.proofs.lemmas.Slice.Eq.{bytes_eq-Decides}
 use Rattle.std.specs.Cmp.Lexicographic.{pointwise}
 use Rattle.tap_name.specs.Settings.{SettingsValue}
 use Rattle.tap_name.specs.declared.slot.Slot.{Slot}
-use Rattle.tap_name.specs.declared.slot.Offered.{Offered}
 use Rattle.tap_wire.specs.declared.frame.Body.{Body}
-use Rattle.tap_wire.specs.declared.frame.Body.TheVariants.{Hello, Release, Seek}
+use Rattle.tap_wire.specs.declared.frame.Body.TheVariants.{Release, Seek}
 use Rattle.tap_wire.specs.declared.frame.Frame.{Frame}
 use Rattle.tap_wire.specs.declared.frame.TellFields.{TellFields}
 use Rattle.tap_rule.specs.Act.{act}
@@ -31,7 +30,7 @@ use Rattle.tap_rule.proofs.CarriedOut.{frame_law, unruled_law}
 use Rattle.tap_rule.proofs.EndSteps.{unlinked}
 use Rattle.tap_rule.specs.Links.{takes_release}
 use Rattle.tap_rule.specs.Event.{Acted}
-use Rattle.tap_safety.specs.Frames.{HelloFields, tell_body}
+use Rattle.tap_safety.specs.Frames.{HelloFields, hello_body, tell_body}
 use Rattle.tap_safety.specs.Move.{MayJoin}
 use Rattle.tap_safety.specs.Move.Move.{Begins, Delivers}
 use Rattle.tap_safety.specs.Moved.{moved}
@@ -104,13 +103,11 @@ module _ (p : SettingsValue) (members : List (List ℕ)) (s : System) (r : Traff
         releases_links members s node (is_node Release is) (named Release) from (sender_name p s number node from Release is)
         (is.invariant.ends.apart number (frame_to node from Release) is.among) sender_core
 
-  hello_says : (session : ℕ) (core : Bool) (links : List Offered)
-      → IsDelivery p s number node from (Hello session core links)
-      → Says (Hello session core links) (takes_hello node from session core links)
-  hello_says session core links is =
-      let fields : HelloFields = record { session = session; is_core = core; links = links } in
-      hello_links members s node (is_node (Hello session core links) is) from session core links
-      (sender_name p s number node from (Hello session core links) is) (hello_names_are p s number node from fields is)
+  hello_says : (hello : HelloFields) → IsDelivery p s number node from (hello_body hello)
+      → Says (hello_body hello) (takes_hello node from hello.session hello.is_core hello.links)
+  hello_says hello is =
+      hello_links members s node (is_node (hello_body hello) is) from hello (sender_name p s number node from (hello_body hello) is)
+      (hello_names_are p s number node from hello is)
 
   -- a core node pins whose cover it is asked for
   asked_says : {body : Body} {request : Request} → IsAsked node (Takes from body) request → IsDelivery p s number node from body
@@ -122,7 +119,7 @@ module _ (p : SettingsValue) (members : List (List ℕ)) (s : System) (r : Traff
       → IsJoinBody body → IsPlainNode node → IsDelivery p s number node from body → Says body rule
   case_says (GreetedBefore {watch = watch} before) at of plain is = tell_pins _ watch is _ (record { words = refl; ties = refl })
   case_says (Greets {watch = watch} before) at of plain is = tell_pins _ watch is _ (record { words = refl; ties = refl })
-  case_says (IsGreeted {session = session} {core = core} {links = links}) at of plain is = hello_says session core links is
+  case_says IsGreeted at of plain is = hello_says _ is
   case_says (HasCeased given_up) at of plain is = let wrong : false ≡ true = sym plain.goes_on ∙ given_up in absurd (cc)
   case_says (IsReleased early) at of plain is = release_says is
   case_says (IsForgottenBy early) at of plain is = absurd of

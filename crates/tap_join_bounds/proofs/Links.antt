@@ -19,6 +19,7 @@ use Rattle.tap_rule.specs.Node.{NodeState, Status, link_to, name_of, settings_of
 use Rattle.tap_rule.specs.Node.Status.{Ceased, Core, Gone, Joining, Leaving}
 use Rattle.tap_rule.specs.KeptNode.{IsNode}
 use Rattle.tap_rule.specs.Reaction.{Reaction, pin_word}
+use Rattle.tap_safety.specs.Frames.{HelloFields, hello_body}
 use Rattle.tap_safety.specs.System.{System}
 use Rattle.tap_safety.specs.Ties.{status_in}
 use Rattle.tap_moves.proofs.Got.{same_name}
@@ -169,28 +170,27 @@ module _ (members : List (List ℕ)) (s : System) (node : NodeState) (is : IsNod
     }
 
 -- a Hello, whose names are names of the settings
-module _ (members : List (List ℕ)) (s : System) (node : NodeState) (is : IsNode node) (from : List ℕ) (session : ℕ) (core : Bool)
-    (links : List Offered) (sender : IsName (settings_of node) from)
-    (names : All (λ (o : Offered). IsName (settings_of node) o.name) links) where
-  abbrev hello : Reaction
-  hello = takes_hello node from session core links
+module _ (members : List (List ℕ)) (s : System) (node : NodeState) (is : IsNode node) (from : List ℕ) (hello : HelloFields)
+    (sender : IsName (settings_of node) from) (names : All (λ (o : Offered). IsName (settings_of node) o.name) hello.links) where
+  abbrev greeted : Reaction
+  greeted = takes_hello node from hello.session hello.is_core hello.links
 
   are : AreOf (settings_of node) (name_of node) node.ties
   are = (is.ties, refl, refl)
 
-  all : All (IsNamed (settings_of node) (name_of node)) (hello_names from core links)
-  all = all_named (settings_of node) (name_of node) node.ties are from core links sender names
+  all : All (IsNamed (settings_of node) (name_of node)) (hello_names from hello.is_core hello.links)
+  all = all_named (settings_of node) (name_of node) node.ties are from hello.is_core hello.links sender names
 
-  hello_adds : (t : List ℕ) → Adds t hello.words (link_to node t) (link_to hello.state t)
-  hello_adds t = links_add (settings_of node) (name_of node) t (hello_names from core links) node.ties node.stamp all are
+  hello_adds : (t : List ℕ) → Adds t greeted.words (link_to node t) (link_to greeted.state t)
+  hello_adds t = links_add (settings_of node) (name_of node) t (hello_names from hello.is_core hello.links) node.ties node.stamp all are
 
-  pub hello_links : LinksStep members s node (λ t. cond (names_in (Hello session core links) from t) 1 0) hello
+  pub hello_links : LinksStep members s node (λ t. cond (names_in (hello_body hello) from t) 1 0) greeted
   hello_links = record {
     on = λ t.
         let linked = (hello_adds t).on in
-        let more = more_for_link (has_name members t) (status_in (s.node t)) (link_to node t) (link_to hello.state t)
+        let more = more_for_link (has_name members t) (status_in (s.node t)) (link_to node t) (link_to greeted.state t)
         (omega (arith, linked)) in
-        let few = links_few (settings_of node) (name_of node) t (hello_names from core links) node.ties node.stamp all are in
+        let few = links_few (settings_of node) (name_of node) t (hello_names from hello.is_core hello.links) node.ties node.stamp all are in
         omega (arith, more, few);
     pins = λ t. (hello_adds t).pins;
   }

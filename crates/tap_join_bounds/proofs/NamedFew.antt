@@ -9,7 +9,6 @@ use Rattle.std.proofs.lemmas.Slice.Eq.{bytes_eq-Decides}
 use Rattle.tap_name.specs.Names.{Among, has_name}
 use Rattle.tap_join.specs.Hello.{hello_names}
 use Rattle.tap_wire.specs.declared.frame.Body.{Body}
-use Rattle.tap_wire.specs.declared.frame.Body.TheVariants.{Hello}
 use Rattle.tap_wire.specs.declared.frame.Frame.{Frame}
 use Rattle.tap_rule.specs.Sent.{IsAmong}
 use Rattle.tap_safety.specs.Seeking.{HasNode}
@@ -20,7 +19,8 @@ use Rattle.tap_bounds.specs.Hellos.{HellosOnce, is_core_hello, is_joining_hello,
 use Rattle.tap_bounds.specs.Traffic.{Traffic}
 use Rattle.tap_bounds.proofs.Counting.{count-cons, count-none}
 use Rattle.tap_join_bounds.specs.OfJoins.{joiner_said}
-use Rattle.tap_join_bounds.proofs.JoinsKept.{AreOfJoins, IsJoinFrame}
+use Rattle.tap_join_bounds.proofs.JoinRules.{IsJoinFrame}
+use Rattle.tap_join_bounds.proofs.JoinsKept.{AreOfJoins}
 use Rattle.tap_join_bounds.proofs.Links.{is_naming}
 use Rattle.tap_join_bounds.proofs.Words.{is_named_in}
 
@@ -118,17 +118,20 @@ module _ (t u v : Frame → Bool) where
           ]
 
 -- such a Hello is that of a core node, or from the name itself
-which_hello : (x t from to : List ℕ) (body : Body) → IsJoinFrame body
+which_hello : (x t from to : List ℕ) {body : Body} → Said body → IsJoinFrame body
     → is_naming x t (record { from = from; to = to; body = body }) ≡ true
     → (is_core_to x (record { from = from; to = to; body = body }) ≡ true)
     ⊎ (is_joining_hello t x (record { from = from; to = to; body = body }) ≡ true)
-which_hello x t from to (Hello session true links) of is = inl (and_parts (is_named_in t (hello_names from true links)) _ is).1
-which_hello x t from to (Hello session false links) of is =
-    let parts = and_parts (is_named_in t (hello_names from false links)) (pointwise nat_eq to x) is in
-    let alone : is_named_in t (hello_names from false []) ≡ true =
-    ap (λ ls. is_named_in t (hello_names from false ls)) (sym (of refl)) ∙ parts.0 in
-    let sender = sym (or-false (pointwise nat_eq from t)) ∙ alone in
-    inr (rw (sender, parts.1) refl)
+which_hello x t from to (IsHello hello) of is =
+    let parts = and_parts (is_named_in t (hello_names from hello.is_core hello.links)) (pointwise nat_eq to x) is in
+    elim (cases_Bool hello.is_core) [
+      | inl core ↦ inl (rw (core, parts.1) refl)
+      | inr joins ↦
+          let alone : is_named_in t (hello_names from hello.is_core []) ≡ true =
+          ap (λ ls. is_named_in t (hello_names from hello.is_core ls)) (sym (of joins)) ∙ parts.0 in
+          let sender = sym (or-false (pointwise nat_eq from t)) ∙ alone in
+          inr (rw (joins, sender, parts.1) refl)
+    ]
 which_hello x t from to _ of is = cc
 
 -- a Hello goes to a joiner
@@ -154,7 +157,7 @@ module _ (members names : List (List ℕ)) (s : System) (r : Traffic) (are : Are
   few_to_joiner : count_by (is_naming x t) r.sent ≤ length names + 1
   few_to_joiner =
       let parts = either (is_naming x t) (is_core_to x) (is_joining_hello t x) r.sent
-      (λ f among is. which_hello x t f.from f.to f.body (are.sent f among) is) in
+      (λ f among is. which_hello x t f.from f.to (said_of f.body) (are.sent f among) is) in
       let core = by_sender x names r.sent (λ f among. let ends = are.ends f among in all f.from ends.0) in
       let each = one_each x names r once in
       let own = once.joining t x in

@@ -1,9 +1,9 @@
 -- Runs in which nothing but joins is started, and what is sent in them.
-use Rattle.std.specs.Prelude.{◌≡◌, ℕ, false, List, [], ◌∷◌, Option, None, Some}
+use Rattle.std.specs.Prelude.{◌≡◌, ℕ, false, List, [], ◌∷◌, Option, Some}
 use Rattle.tap_name.specs.Names.{has_name}
 use Rattle.tap_name.specs.Settings.{SettingsValue}
 use Rattle.tap_wire.specs.declared.frame.Body.{Body}
-use Rattle.tap_wire.specs.declared.frame.Body.TheVariants.{Done, Heard, Hello, Seek, Tell}
+use Rattle.tap_wire.specs.declared.frame.Body.TheVariants.{Done, Seek}
 use Rattle.tap_wire.specs.declared.kind.Kind.TheVariants as kind
 use Rattle.tap_wire.specs.declared.frame.Frame.{Frame}
 use Rattle.tap_wire.specs.declared.kind.Kind.{Kind}
@@ -12,6 +12,7 @@ use Rattle.tap_rule.specs.Event.{Start}
 use Rattle.tap_rule.specs.Event.Start.{Join}
 use Rattle.tap_rule.specs.Sent.{IsAmong}
 use Rattle.tap_safety.specs.AtRest.{AreMembers, system_at_rest}
+use Rattle.tap_safety.specs.Joins.{about_of}
 use Rattle.tap_safety.specs.Move.{Move}
 use Rattle.tap_safety.specs.Move.Move.{Begins, Delivers}
 use Rattle.tap_safety.specs.Seeking.{HasNode}
@@ -55,11 +56,8 @@ IsJoinBody body = IsJoinKind (kind_of body)
 
 abbrev pub joiner_named : Body → List ℕ → List ℕ → Option (List ℕ)
 joiner_named (Seek joiner) from to = Some joiner
-joiner_named (Tell joiner prefix level session depth watch) from to = Some joiner
-joiner_named (Hello session core links) from to = Some to
-joiner_named (Heard session) from to = Some from
 joiner_named Done from to = Some to
-joiner_named other from to = None
+joiner_named other from to = about_of other from to
 
 -- whose join a frame is of, if it says so: the joiner of a Seek and of a Tell, the receiver of a Hello and of a Done, and the sender of a
 -- Heard

@@ -356,7 +356,7 @@ module _ (p : SettingsValue) (s : System) (number : ℕ) (node : NodeState) (fro
   hello_calm hello is at =
       let body = hello_body hello in
       let here = due p s number node from body is in
-      let step = hello_law node from hello.session hello.is_core hello.links at is.known in
+      let step = hello_law node from hello at is.known in
       let none = starts_none_as p s number node from body here (ap (λ (o : SessionsValue). o.opened) step.sessions) in
       let made = hello_is_made s after number node from hello (by_rule p s number node from body here) none at
       (sender_name p s number node from body is) (hello_names_are p s number node from hello is) in

@@ -29,6 +29,7 @@ use Rattle.tap_multicast.proofs.Telling.{first_cover_tells, pin_told, primary_to
 use Rattle.tap_wire.specs.declared.frame.TellFields.{TellFields}
 use Rattle.tap_rule.specs.Covering.{Request}
 use Rattle.tap_rule.specs.Event.{Acted}
+use Rattle.tap_rule.specs.Hellos.{core_says}
 use Rattle.tap_rule.specs.JoinSteps.{CoverStep, SpreadStep}
 use Rattle.tap_rule.specs.Node.{NodeState, level_of, link_to, name_of, settings_of}
 use Rattle.tap_rule.specs.Strange.{is_no_pin}
@@ -150,7 +151,7 @@ module _ (node : NodeState) (request : Request) where
       (cover_of pinned_table (level_of node request.joiner) request.joiner request.prefix request.level)
 
   abbrev pub hello_made : HelloFields
-  hello_made = record { session = node.sessions.opened + 1; is_core = true; links = made_offer }
+  hello_made = core_says (node.sessions.opened + 1) made_offer
 
 module _ (node : NodeState) (request : Request) (acted : Acted) (ties : AreTies node.ties)
     (is_name : IsName (settings_of node) request.joiner) (fits : IsTellFit node request.joiner)

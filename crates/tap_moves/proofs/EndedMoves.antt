@@ -123,7 +123,7 @@ frame_ended p s number node from body is there = by_said body (said_of body) is 
         → EndedHaveNoLinks (after_delivery p s number)
     by_said _ (IsTell tell watch) is there = tell_ended p s number node from tell watch is there
     by_said _ (IsHello hello) is there =
-        goes_on p s number node from (hello_body hello) is (hello_law node from hello.session hello.is_core hello.links there is.known).joins.status
+        goes_on p s number node from (hello_body hello) is (hello_law node from hello there is.known).joins.status
         (inl there)
     by_said _ (IsSeek joiner) is there = seek_ended p s number node from joiner is there (sought node.ties.table joiner) refl
     by_said _ IsRelease is there =

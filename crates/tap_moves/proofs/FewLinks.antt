@@ -1,6 +1,6 @@
 -- A frame that isn't strange leaves a node no more links than it may have.
 -- Cited above: none_linked
-use Rattle.std.proofs.Common.{◌≡◌, ◌≢◌, ◌⊎◌, ℕ, zero, suc, ◌≤◌, Bool, List, [], ◌∷◌, length, get_or, map, slice_get, Option, None, Some, All, false, refl, sym, ap, subst, ◌∙◌, inl, inr}
+use Rattle.std.proofs.Common.{◌≡◌, ◌≢◌, ◌⊎◌, ℕ, zero, suc, ◌≤◌, List, [], ◌∷◌, length, get_or, map, slice_get, Option, None, Some, All, false, refl, sym, ap, subst, ◌∙◌, inl, inr}
 use Rattle.std.specs.Ordering.{is_eq}
 use Rattle.std.proofs.lemmas.Bool.{cases_Bool}
 use Rattle.tap_name.specs.Name.{IsName}
@@ -24,9 +24,9 @@ use Rattle.tap_join.specs.Hello.{after_hello, hello_names}
 use Rattle.tap_join.proofs.Hellos.{AreTies-after_hello, hello_new_links, owner_stays}
 use Rattle.tap_depart.specs.ToldLeave.{told_leave}
 use Rattle.tap_depart.proofs.Notices.{AreTies-told, new_is_told, told_is_new, told_owner}
-use Rattle.tap_wire.specs.declared.frame.Body.TheVariants.{Hello}
 use Rattle.tap_wire.specs.declared.frame.Frame.{Frame}
 use Rattle.tap_rule.specs.Fit.{CouldLink, IsFit}
+use Rattle.tap_rule.specs.Hellos.{HelloFields, hello_body}
 use Rattle.tap_rule.specs.RuleLaws.{frame_to}
 use Rattle.tap_rule.specs.Node.{NodeState, link_to, name_of, settings_of}
 use Rattle.tap_rule.specs.Strange.{is_strange}
@@ -135,22 +135,22 @@ among_links (first ∷ links) zero link got = let same : first ≡ link = cc in 
 among_links (first ∷ links) (suc i) link got = inr (among_links links i link got)
 
 -- after a Hello
-pub few-hello : (node : NodeState) (from : List ℕ) (session : ℕ) (core : Bool) (links : List Offered) → AreTies node.ties
-    → is_strange node (frame_to node from (Hello session core links)) ≡ false → IsName (settings_of node) from
-    → All (λ link. IsName (settings_of node) link.name) links
-    → length (targets_by_name (after_hello node.ties from core links).table) ≤ 255
-few-hello node from session core links ties taken sender names =
-    let after = after_hello node.ties from core links in
-    let frame = frame_to node from (Hello session core links) in
+pub few-hello : (node : NodeState) (from : List ℕ) (hello : HelloFields) → AreTies node.ties
+    → is_strange node (frame_to node from (hello_body hello)) ≡ false → IsName (settings_of node) from
+    → All (λ link. IsName (settings_of node) link.name) hello.links
+    → length (targets_by_name (after_hello node.ties from hello.is_core hello.links).table) ≤ 255
+few-hello node from hello ties taken sender names =
+    let after = after_hello node.ties from hello.is_core hello.links in
+    let frame = frame_to node from (hello_body hello) in
     few_by_fit node frame ties taken after.table
-    (AreTies-after_hello (settings_of node) (name_of node) node.ties (ties, refl, refl) from core links sender names).table
-    (owner_stays (hello_names from core links) node.ties) (λ x kind is.
-    elim (hello_new_links (settings_of node) (name_of node) node.ties (ties, refl, refl) from core links sender names x kind is) [
+    (AreTies-after_hello (settings_of node) (name_of node) node.ties (ties, refl, refl) from hello.is_core hello.links sender names).table
+    (owner_stays (hello_names from hello.is_core hello.links) node.ties) (λ x kind is.
+    elim (hello_new_links (settings_of node) (name_of node) node.ties (ties, refl, refl) from hello.is_core hello.links sender names x kind is) [
       | inl was ↦ inl (known_kind (link_to node x) kind was)
       | inr new ↦ inr (named x new.0 new.1 new.2 new.3)
     ])
   where
-    named : (x : List ℕ) (i : ℕ) (link : Offered) → slice_get (hello_names from core links) i ≡ Some link → x ≡ link.name
-        → (x ≡ from) ⊎ Among x (map (λ l. l.name) links)
-    named x i link got same = subst (λ y. (y ≡ from) ⊎ Among y (map (λ l. l.name) links)) (sym same)
-        (among_links (hello_names from core links) i link got)
+    named : (x : List ℕ) (i : ℕ) (link : Offered) → slice_get (hello_names from hello.is_core hello.links) i ≡ Some link → x ≡ link.name
+        → (x ≡ from) ⊎ Among x (map (λ l. l.name) hello.links)
+    named x i link got same = subst (λ y. (y ≡ from) ⊎ Among y (map (λ l. l.name) hello.links)) (sym same)
+        (among_links (hello_names from hello.is_core hello.links) i link got)

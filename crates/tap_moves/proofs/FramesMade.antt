@@ -170,7 +170,7 @@ module _ (node : NodeState) (from : List ℕ) (hello : HelloFields) (ties : AreT
 pub hello_is_made : HelloIsMade
 hello_is_made s s' number node from hello taken surrogates at sender names =
     let ties = taken.is_node.ties in
-    let step = hello_law node from hello.session hello.is_core hello.links at taken.known in
+    let step = hello_law node from hello at taken.known in
     let after = (taken_at node from (hello_body hello)).state in
     record {
       step =

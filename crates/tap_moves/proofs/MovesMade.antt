@@ -257,7 +257,7 @@ ceased_tell_keeps p s number node from tell watch due at filled =
 pub hello_keeps : HelloKeeps
 hello_keeps p s number node from hello due at sender names soft filled =
     let s' = after_delivery p s number in
-    let step = hello_step_law node from hello.session hello.is_core hello.links at due.known in
+    let step = hello_step_law node from hello at due.known in
     let none = starts_none_as p s number node from (hello_body hello) due (ap opened_in step.sessions) in
     hello_filled_law p s s' number from (name_of node) hello
     (hello_is_made s s' number node from hello (by_rule p s number node from (hello_body hello) due) none at sender names) soft filled

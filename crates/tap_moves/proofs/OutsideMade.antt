@@ -188,7 +188,7 @@ outside_leaves s s' number node from body before taken remembers outside =
 
 pub hello_hands_on : HandsOnByHello
 hello_hands_on s s' number node from hello before taken remembers at =
-    let step = hello_law node from hello.session hello.is_core hello.links at taken.known in
+    let step = hello_law node from hello at taken.known in
     let acted = taken_at node from (hello_body hello) in
     hands_on_as s s' number node from (hello_body hello) before taken remembers
     (ap (λ (o : SessionsValue). o.opened) step.sessions) from hello.session refl refl

@@ -279,7 +279,7 @@ module _ (p : SettingsValue) (s : System) (number : ℕ) (node : NodeState) (fro
   hello_steps hello is at =
       let body = hello_body hello in
       let here = due p s number node from body is in
-      let step = hello_law node from hello.session hello.is_core hello.links at is.known in
+      let step = hello_law node from hello at is.known in
       let now : (taken_at node from body).state.sessions.opened ≡ node.sessions.opened =
       ap (λ (o : SessionsValue). o.opened) step.sessions in
       record {

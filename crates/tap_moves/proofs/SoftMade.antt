@@ -200,7 +200,7 @@ module _ (p : SettingsValue) (s : System) (number : ℕ) (node : NodeState) (fro
   pub hello_soft : (hello : HelloFields) → IsArriving s number node from (hello_body hello) → node.status ≡ Joining
       → IsName (settings_of node) from → AreOfferedNames (settings_of node) hello.links → NamesSoft s → NamesSoft after
   hello_soft hello due at sender names soft =
-      let step = hello_law node from hello.session hello.is_core hello.links at due.known in
+      let step = hello_law node from hello at due.known in
       let none = starts_none_as p s number node from (hello_body hello) due (ap (λ (o : SessionsValue). o.opened) step.sessions) in
       soft_hello_law s after number from (name_of node) hello
       (hello_is_made s after number node from hello (by_rule p s number node from (hello_body hello) due) none at sender names) soft

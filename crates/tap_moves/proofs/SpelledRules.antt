@@ -316,8 +316,8 @@ module _ (node : NodeState) (is : IsNode node) (has : KnowsNames (settings_of no
   case_spelled {cause = cause} (Greets {from = from} {session = session} {depth = depth} before) said sent =
       pinned_spelled _ (asked_request {cause = cause} ByTell said) _ refl refl
       (parents-opened p node.sessions (Node from session) depth 1 has.parents (said.0, said.1.session_least)) refl refl refl sent
-  case_spelled (IsGreeted {from = from} {session = session} {core = core} {links = links}) said sent =
-      spelled _ (knows _ refl (few-hello node from session core links is.ties said.2 said.0 said.1.1.names) has.parents has.cast_parents)
+  case_spelled (IsGreeted {from = from} {core = core} {links = links}) said sent =
+      spelled _ (knows _ refl (few-hello node from _ is.ties said.2 said.0 said.1.1.names) has.parents has.cast_parents)
       (hello_named p (hello_names from core links) node.ties node.stamp
       (All-cons (λ link. IsName p link.name) (record { name = from; settled = core }) links said.0 said.1.1.names)) refl sent
   case_spelled (HasCeased given_up) said sent = spelled _ (ended_knows node Ceased is has) last_named refl sent

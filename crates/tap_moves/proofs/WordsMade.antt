@@ -256,7 +256,7 @@ module _ (p : SettingsValue) (s : System) (number : ℕ) (node : NodeState) (fro
       → IsName (settings_of node) from → All (λ link. IsName (settings_of node) link.name) hello.links → AreStamped s → WordsStand s
       → WordsStand after
   hello_words_kept hello due at sender names stamped stand =
-      let step = hello_law node from hello.session hello.is_core hello.links at due.known in
+      let step = hello_law node from hello at due.known in
       let state = (taken_at node from (hello_body hello)).state in
       let none = starts_none_as p s number node from (hello_body hello) due (ap (λ (o : SessionsValue). o.opened) step.sessions) in
       words_kept (hello_body hello) due (hello_tells node.ties node.stamp from hello.is_core hello.links)

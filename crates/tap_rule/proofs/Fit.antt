@@ -19,7 +19,7 @@ use Rattle.tap_table.specs.ByName.{targets_by_name}
 use Rattle.tap_depart.specs.Leaving.{names_but}
 use Rattle.tap_wire.specs.declared.frame.Frame.{Frame}
 use Rattle.tap_wire.specs.declared.frame.Body.{Body}
-use Rattle.tap_wire.specs.declared.frame.Body.TheVariants.{Seek, Tell, Hello, Leave, Cast}
+use Rattle.tap_wire.specs.declared.frame.Body.TheVariants.{Seek, Tell, Leave, Cast}
 use Rattle.tap_rule.specs.Node.{NodeState, level_of, link_to, name_of}
 use Rattle.tap_rule.specs.Strange.{is_leaving, is_no_pin, is_own_name, is_strange, is_strange_body, is_strange_seek, is_strange_tell, is_too_many, name_if, names_to_link, with_names}
 use Rattle.tap_rule.specs.Fit.{CouldLink, IsFit, IsFitBody, IsFitSeek, IsFitTell, MayLink}
@@ -164,22 +164,20 @@ could_be_linked : (from : List ℕ) (body : Body) (name : List ℕ) → CouldLin
 unfolding names_to_link
 could_be_linked from (Seek joiner) name is = inl is
 could_be_linked from (Tell joiner prefix level session depth watch) name is = inl is
-could_be_linked from (Hello session core links) name is = is
 could_be_linked from (Leave replacement) name is = rw is (inl refl)
-could_be_linked from _ name is = absurd is
+could_be_linked from _ name is = is
 
 can_be_linked : (from : List ℕ) (body : Body) (name : List ℕ) → Among name (names_to_link from body) → CouldLink from body name
 unfolding names_to_link
 can_be_linked from (Seek joiner) name among = elim among [ inl is ↦ is | inr none ↦ absurd none ]
 can_be_linked from (Tell joiner prefix level session depth watch) name among = elim among [ inl is ↦ is | inr none ↦ absurd none ]
-can_be_linked from (Hello session core links) name among = among
 can_be_linked from (Leave replacement) name among = by_replacement replacement among
   where
     by_replacement : (given : Option (List ℕ)) → Among name (name_if given) → given ≡ Some name
     by_replacement None none = absurd none
     by_replacement (Some given) (inl is) = ap Some (sym is)
     by_replacement (Some given) (inr none) = absurd none
-can_be_linked from _ name among = absurd among
+can_be_linked from _ name among = among
 
 -- a link that is there has a kind
 kind_there : (kind : Option Kind) → kind ≢ None → (k : Kind) × (kind ≡ Some k)

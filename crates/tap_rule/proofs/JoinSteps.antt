@@ -17,7 +17,7 @@ use Rattle.tap_table.specs.Ties.{AreTies, TiesValue, pinned}
 use Rattle.tap_table.proofs.LookUps.{by_rule, kind_in-pinned, of_itself}
 use Rattle.tap_join.specs.Hello.{words_of}
 use Rattle.tap_wire.specs.declared.frame.TellFields.{TellFields}
-use Rattle.tap_wire.specs.declared.frame.Body.TheVariants.{Hello, Ack, Done}
+use Rattle.tap_wire.specs.declared.frame.Body.TheVariants.{Ack, Done}
 use Rattle.tap_rule.specs.Node.{IsRunning, NodeState, link_to, name_of, settings_of}
 use Rattle.tap_rule.specs.Event.{Acted}
 use Rattle.tap_rule.specs.Reaction.{message, pin_word, sends, with_pin, with_words}
@@ -28,7 +28,7 @@ use Rattle.tap_rule.specs.Sending.{link_frame}
 use Rattle.tap_rule.specs.Sent.{IsAmong}
 use Rattle.tap_rule.specs.JoinSteps.{MeetStep, PinStep}
 use Rattle.tap_rule.specs.RuleLaws.{DoneLaw, HelloLaw, IsCarriedOut, MeetLaw, frame_to, tell_of}
-use Rattle.tap_rule.specs.Hellos.{joining_hello}
+use Rattle.tap_rule.specs.Hellos.{hello_body, joining_hello}
 use Rattle.tap_rule.proofs.CarriedOut.{frame_law}
 use Rattle.tap_rule.proofs.Completed.{completed_by, one_word, rest_by}
 use Rattle.tap_rule.proofs.OneName.{others_stay}
@@ -144,9 +144,9 @@ meet_law node from tell watch ties is_name at taken =
 
 pub hello_law : HelloLaw
 unfolding frame_at_joining
-hello_law node from session core links at taken =
-    let frame = frame_to node from (Hello session core links) in
-    let carried = frame_law node frame (takes_hello node from session core links) taken (rw at refl) in
+hello_law node from hello at taken =
+    let frame = frame_to node from (hello_body hello) in
+    let carried = frame_law node frame (takes_hello node from hello.session hello.is_core hello.links) taken (rw at refl) in
     record {
       joins = record { status = carried.status; covers = carried.covers; greeted = carried.greeted; abandoned = carried.abandoned };
       sessions = carried.sessions;

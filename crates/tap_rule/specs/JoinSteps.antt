@@ -30,7 +30,7 @@ use Rattle.tap_rule.specs.Sent.{AreSent, IsAmong}
 use Rattle.tap_rule.specs.Completed.{IsCompleted, RestAlike}
 use Rattle.tap_rule.specs.LinkSteps.{AllAlike, IsParentAnswered, IsParentTold, JoinsAlike}
 use Rattle.tap_rule.specs.Covering.{Request, answers_awaited, tell_for}
-use Rattle.tap_rule.specs.Hellos.{core_hello, joining_hello}
+use Rattle.tap_rule.specs.Hellos.{HelloFields, core_hello, joining_hello}
 
 -- The node pins a joiner to which it has no link, or a pin: it has one then, no other link changes, and a new link has its word.
 pub record PinStep (node : NodeState) (joiner : List ℕ) (acted : Acted) : Type 0 where
@@ -66,14 +66,14 @@ pub record MeetStep (node : NodeState) (from : List ℕ) (tell : TellFields) (ac
       (message tell.joiner (joining_hello (node.sessions.opened + 1)) ∷ []) Nothing acted
 
 -- Hello, at a joining node: its ties are those after the Hello, each new link has its word, and it answers
-pub record HelloStep (node : NodeState) (from : List ℕ) (session : ℕ) (core : Bool) (links : List Offered) (acted : Acted) : Type 0 where
+pub record HelloStep (node : NodeState) (from : List ℕ) (hello : HelloFields) (acted : Acted) : Type 0 where
   pub joins : JoinsAlike node acted.state
   pub sessions : acted.state.sessions ≡ node.sessions
-  pub ties : acted.state.ties ≡ after_hello node.ties from core links
-  pub sent : AreSent (name_of node) (hello_words node from core links) (message from (Heard session) ∷ []) acted.sent
+  pub ties : acted.state.ties ≡ after_hello node.ties from hello.is_core hello.links
+  pub sent : AreSent (name_of node) (hello_words node from hello.is_core hello.links) (message from (Heard hello.session) ∷ []) acted.sent
   pub rest : RestAlike node acted.state
-  pub completed : IsCompleted node node.pointers (hello_tells node.ties node.stamp from core links)
-      (message from (Heard session) ∷ []) Nothing acted
+  pub completed : IsCompleted node node.pointers (hello_tells node.ties node.stamp from hello.is_core hello.links)
+      (message from (Heard hello.session) ∷ []) Nothing acted
 
 -- Done, at a joining node whose join wasn't given up: it is core, and each holder that is on is released
 pub record DoneStep (node : NodeState) (acted : Acted) : Type 0 where

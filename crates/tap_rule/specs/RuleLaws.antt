@@ -3,7 +3,6 @@ use Rattle.std.specs.Prelude.{◌≡◌, ◌≢◌, ◌↔◌, ◌⊎◌, ◌≤
 use Rattle.tap_name.specs.Name.{IsName}
 use Rattle.tap_name.specs.Names.{AreDistinct, AreNames}
 use Rattle.tap_name.specs.Settings.{AreWithinLimits, SettingsValue}
-use Rattle.tap_name.specs.declared.slot.Offered.{Offered}
 use Rattle.tap_name.specs.declared.slot.Slot.{Slot}
 use Rattle.tap_session.specs.declared.parent.Parent.TheVariants.{Node, Root}
 use Rattle.tap_session.specs.Sessions.{AreSessions}
@@ -11,8 +10,9 @@ use Rattle.tap_table.specs.Ties.{AreTies}
 use Rattle.tap_wire.specs.Spelling.{IsFrame}
 use Rattle.tap_wire.specs.declared.frame.Frame.{Frame}
 use Rattle.tap_wire.specs.declared.frame.Body.{Body}
-use Rattle.tap_wire.specs.declared.frame.Body.TheVariants.{Seek, Tell, Hello, Done, Release, Link, Lay, Find, Answer, Leave, Left, Gone, Forget, Ack, Cast, CastAck}
+use Rattle.tap_wire.specs.declared.frame.Body.TheVariants.{Seek, Tell, Done, Release, Link, Lay, Find, Answer, Leave, Left, Gone, Forget, Ack, Cast, CastAck}
 use Rattle.tap_wire.specs.declared.frame.TellFields.{TellFields}
+use Rattle.tap_rule.specs.Hellos.{HelloFields, hello_body}
 use Rattle.tap_rule.specs.Node.{NodeState, joiner, member_at_rest, name_of, settings_of}
 use Rattle.tap_rule.specs.Node.Status.{Joining, Core, Leaving, Ceased}
 pub use Rattle.tap_rule.specs.Node.{IsRunning}
@@ -152,9 +152,9 @@ MeetLaw = (node : NodeState) (from : List ℕ) (tell : TellFields) (watch : List
     → MeetStep node from tell (act node (Takes (frame_to node from (tell_of tell watch))))
 
 abbrev pub HelloLaw : Type 0
-HelloLaw = (node : NodeState) (from : List ℕ) (session : ℕ) (core : Bool) (links : List Offered) → node.status ≡ Joining
-    → is_strange node (frame_to node from (Hello session core links)) ≡ false
-    → HelloStep node from session core links (act node (Takes (frame_to node from (Hello session core links))))
+HelloLaw = (node : NodeState) (from : List ℕ) (hello : HelloFields) → node.status ≡ Joining
+    → is_strange node (frame_to node from (hello_body hello)) ≡ false
+    → HelloStep node from hello (act node (Takes (frame_to node from (hello_body hello))))
 
 abbrev pub DoneLaw : Type 0
 DoneLaw = (node : NodeState) (from : List ℕ) → node.status ≡ Joining → node.abandoned ≡ false

@@ -1,17 +1,24 @@
 -- Whose the sessions of joins are, and that each join has one end.
 use Rattle.std.specs.Prelude.{◌≡◌, ℕ, List, ◌⊎◌, Option, None, Some}
 use Rattle.tap_wire.specs.declared.frame.Body.{Body}
-use Rattle.tap_wire.specs.declared.frame.Body.TheVariants.{Done, Heard, Hello, Tell}
+use Rattle.tap_wire.specs.declared.frame.Body.TheVariants.{Done, Tell}
 use Rattle.tap_wire.specs.declared.frame.Frame.{Frame}
+use Rattle.tap_wire.specs.declared.kind.Kind.{Kind}
+use Rattle.tap_wire.specs.declared.kind.Kind.TheVariants.{Heard, Hello}
+use Rattle.tap_wire.specs.Kind.{kind_of}
 use Rattle.tap_safety.specs.Remembered.{OpenSession}
 use Rattle.tap_safety.specs.System.{System, AmongFrames, IsJoiner, IsUnderWay}
 use Rattle.tap_safety.specs.Sessions.{Belongs, IsOpen, IsRootless}
 
+-- which end a frame of this kind is about
+abbrev pub end_about : Kind → List ℕ → List ℕ → Option (List ℕ)
+end_about Hello from to = Some to
+end_about Heard from to = Some from
+end_about other from to = None
+
 abbrev pub about_of : Body → List ℕ → List ℕ → Option (List ℕ)
 about_of (Tell joiner prefix level session depth watch) from to = Some joiner
-about_of (Hello session core links) from to = Some to
-about_of (Heard session) from to = Some from
-about_of other from to = None
+about_of other from to = end_about (kind_of other) from to
 
 -- whom a frame of a session is about: the joiner of a Tell, the receiver of a Hello, and the sender of a Heard
 abbrev pub about : Frame → Option (List ℕ)

@@ -5,7 +5,7 @@ use Rattle.tap_name.specs.declared.slot.Offered.{Offered}
 use Rattle.tap_name.specs.declared.slot.Slot.{Slot}
 use Rattle.tap_link.specs.declared.kind.Kind.TheVariants.{Leaving as LeavingKind}
 use Rattle.tap_wire.specs.declared.frame.Body.{Body}
-use Rattle.tap_wire.specs.declared.frame.Body.TheVariants.{Hello, Seek, Tell}
+use Rattle.tap_wire.specs.declared.frame.Body.TheVariants.{Seek, Tell}
 use Rattle.tap_wire.specs.declared.frame.Frame.{Frame}
 use Rattle.tap_wire.specs.declared.frame.TellFields.{TellFields}
 use Rattle.tap_rule.specs.Sent.{IsAmong}
@@ -13,7 +13,7 @@ use Rattle.tap_safety.specs.Frames.{HelloFields, hello_body, tell_body}
 use Rattle.tap_safety.specs.System.{System, AmongFrames, CoversAt, HasLink, IsCoreNode, IsJoiner, IsTold, IsUnderWay}
 use Rattle.tap_safety.specs.Regions.{Has}
 use Rattle.tap_safety.specs.Seeking.{HasNode, IsSeeker}
-use Rattle.tap_safety.specs.Soft.{IsSoft, NamesSoft}
+use Rattle.tap_safety.specs.Soft.{IsQuietBody, IsSoft, NamesSoft}
 use Rattle.tap_safety.specs.Exchanges.{IsSent}
 use Rattle.tap_safety.specs.Bookkeeping.{HaveEnds}
 use Rattle.tap_safety.specs.FrameSteps.{LinksStay, StartsJoin, TakesFrame}
@@ -25,15 +25,12 @@ pub record AreSoftEnds (s : System) (w b : List ℕ) (hello : HelloFields) : Typ
   pub to : IsSoft s b
   pub offers : (o : Offered) → IsAmong o hello.links → IsSoft s o.name
 
--- What may be sent when a joiner is covered, or becomes core: a Tell is sound, a Hello goes between soft nodes and offers such, and there
--- is no Seek.
+-- What may be sent when a joiner is covered, or becomes core: a Tell is sound, and any other frame is quiet, so that a Hello goes between
+-- soft nodes and offers such, and there is no Seek.
 abbrev pub IsCoverBody : SettingsValue → System → List ℕ → List ℕ → Body → Type 0
-IsCoverBody p s from to (Seek joiner) = ⊥
 IsCoverBody p s from to (Tell joiner prefix level session depth watch) =
     IsSoundTell p s from to (record { joiner = joiner; prefix = prefix; level = level; session = session; depth = depth })
-IsCoverBody p s from to (Hello session core links) =
-    IsSoft s from × IsSoft s to × ((offered : Offered) → IsAmong offered links → IsSoft s offered.name)
-IsCoverBody p s from to other = Unit
+IsCoverBody p s from to other = IsQuietBody s from to other
 
 -- each frame that is sent
 abbrev pub SendsCovers : SettingsValue → System → List Frame → Type 0

@@ -435,7 +435,7 @@ module _ (p : SettingsValue) (s : System) (number : ℕ) (node : NodeState) (fro
   hello_few hello is at few =
       let body = hello_body hello in
       let here = due p s number node from body is in
-      let rule = hello_law node from hello.session hello.is_core hello.links at is.known in
+      let rule = hello_law node from hello at is.known in
       let step = hello_hands_on s after number node from hello (before_taking p s is.invariant) (by_rule p s number node from body here)
       (remembers p s number node from body here) at in
       few_none body is

@@ -214,7 +214,7 @@ pub hello_for_own : (node : NodeState) (from : List ℕ) (hello : HelloFields) �
     → is_strange node (frame_to node from (hello_body hello)) ≡ false
     → SendsFor (name_of node) (taken_at node from (hello_body hello)).sent
 hello_for_own node from hello at known =
-    let step = hello_law node from hello.session hello.is_core hello.links at known in
+    let step = hello_law node from hello at known in
     sent_for (name_of node) (name_of node) (hello_words node from hello.is_core hello.links) (message from (Heard hello.session) ∷ [])
     (taken_at node from (hello_body hello)).sent step.sent (one_for (name_of node) (name_of node) from (Heard hello.session) refl)
 

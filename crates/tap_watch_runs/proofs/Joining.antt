@@ -96,7 +96,7 @@ module _ (p : SettingsValue) (s : System) (number : ℕ) (node : NodeState) (fro
     hello_stays : (t : List ℕ) (kind : Kind) → link_to node t ≡ Some kind → link_to after_it t ≡ Some kind
     hello_stays t kind link =
         let ties = (due p s number node from (hello_body hello) is).is_node.ties in
-        let step = hello_law node from hello.session hello.is_core hello.links at is.known in
+        let step = hello_law node from hello at is.known in
         ap (λ (one : TiesValue). kind_in one.table t) step.ties
         ∙ hello_links_stay (settings_of node) (name_of node) node.ties (ties, refl, refl) from hello.is_core hello.links
         (sender_name p s number node from (hello_body hello) is) (hello_names_are p s number node from hello is) t kind link
@@ -114,7 +114,7 @@ module _ (p : SettingsValue) (s : System) (number : ℕ) (node : NodeState) (fro
         ⊎ (has_room_near left_ties.table name ≡ false) → IsHad (settings_of node) (name_of node) after_it name
     by_served name serves =
         let ties = (due p s number node from (hello_body hello) is).is_node.ties in
-        let step = hello_law node from hello.session hello.is_core hello.links at is.known in
+        let step = hello_law node from hello at is.known in
         let names = hello_names from hello.is_core hello.links in
         let valid : IsTable left_ties.table =
         (AreTies-after_hello (settings_of node) (name_of node) node.ties (ties, refl, refl) from hello.is_core hello.links
