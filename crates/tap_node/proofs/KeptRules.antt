@@ -1,5 +1,5 @@
 -- A node stays sound at each rule.
-use Rattle.std.proofs.Common.{◌≡◌, ℕ, ◌≤◌, List, [], ◌∷◌, length, map, Option, Some, None, All, true, false, arith, refl, sym, ap, subst, inl, inr, ◌⊎◌, zero, suc, Bool, slice_get}
+use Rattle.std.proofs.Common.{◌≡◌, ℕ, ◌≤◌, List, [], ◌∷◌, length, map, Option, Some, None, All, true, false, arith, refl, sym, ap, subst, inl, inr, ◌⊎◌, zero, suc, slice_get}
 use Rattle.std.proofs.lemmas.Bool.{cases_Bool, or_parts, true≢false}
 use Rattle.std.specs.Prelude.{IfSome, ◌||◌}
 use Rattle.tap_depart.proofs.Notices.{AreTies-told, new_is_told, told_is_new, told_owner}
@@ -20,6 +20,7 @@ use Rattle.tap_pointer.specs.Pointers.{own_pair, owner_publishes, pair_of, withd
 use Rattle.tap_rule.proofs.CoverSteps.{seek_fits}
 use Rattle.tap_rule.proofs.JoinSteps.{tell_fits}
 use Rattle.tap_rule.proofs.OneName.{not_own}
+use Rattle.tap_rule.specs.Hellos.{HelloFields, hello_body}
 use Rattle.tap_rule.specs.Casts.{Copy}
 use Rattle.tap_rule.specs.Covering.{Request}
 use Rattle.tap_rule.specs.Event.{Start}
@@ -37,7 +38,7 @@ use Rattle.tap_wire.specs.Spelling.{IsBody}
 use Rattle.tap_wire.specs.declared.frame.Frame.{Frame}
 use Rattle.tap_wire.specs.declared.frame.TellFields.{TellFields}
 use Rattle.tap_session.specs.declared.parent.Parent.TheVariants.{Node}
-use Rattle.tap_wire.specs.declared.frame.Body.TheVariants.{Seek, Tell, Hello, Release, Leave, Gone, Forget}
+use Rattle.tap_wire.specs.declared.frame.Body.TheVariants.{Seek, Tell, Release, Leave, Gone, Forget}
 use Rattle.tap_rule.specs.Node.Status.{Core, Gone as GoneStatus, Ceased}
 use Rattle.tap_rule.specs.Event.Start.{Publish, Withdraw}
 use Rattle.tap_rule.proofs.Cases.{Cause, IsAsked, IsCast, IsLate, RuleCase, rule_of}
@@ -87,22 +88,24 @@ module _ (node : NodeState) (sound : IsSoundNode node) where
   -- ---- links, sessions and pairs
 
   module _ (from : List ℕ) (is_from : IsName (settings_of node) from) where
-    few_after_hello : (session : ℕ) (core : Bool) (links : List Offered) → All (λ link. IsName (settings_of node) link.name) links
-        → is_strange node (frame_to node from (Hello session core links)) ≡ false → length (rows (after_hello node.ties from core links).table) ≤ 255
+    few_after_hello : (hello : HelloFields) → All (λ link. IsName (settings_of node) link.name) hello.links
+        → is_strange node (frame_to node from (hello_body hello)) ≡ false
+        → length (rows (after_hello node.ties from hello.is_core hello.links).table) ≤ 255
     unfolding names_to_link
-    few_after_hello session core links names taken =
-        let after = after_hello node.ties from core links in
-        let are = AreTies-after_hello (settings_of node) (name_of node) node.ties (ties, refl, refl) from core links is_from names in
-        few_after node.ties.table after.table are.table (owner_stays (hello_names from core links) node.ties)
-        (from ∷ map (λ link. link.name) links)
+    few_after_hello hello names taken =
+        let after = after_hello node.ties from hello.is_core hello.links in
+        let offered = hello_names from hello.is_core hello.links in
+        let are = AreTies-after_hello (settings_of node) (name_of node) node.ties (ties, refl, refl) from hello.is_core hello.links is_from names in
+        few_after node.ties.table after.table are.table (owner_stays offered node.ties)
+        (from ∷ map (λ link. link.name) hello.links)
         (λ x kind is.
-        elim (hello_new_links (settings_of node) (name_of node) node.ties (ties, refl, refl) from core links is_from names x kind is) [
+        elim (hello_new_links (settings_of node) (name_of node) node.ties (ties, refl, refl) from hello.is_core hello.links is_from names x kind is) [
           | inl was ↦ inl (linked_is_target node.ties.table ties.table x kind was)
           | inr new ↦
-              let among = among_links (hello_names from core links) new.0 new.1 new.2 in
-              inr (subst (λ y. Among y (from ∷ map (λ link. link.name) links)) (sym new.3) among)
+              let among = among_links offered new.0 new.1 new.2 in
+              inr (subst (λ y. Among y (from ∷ map (λ link. link.name) hello.links)) (sym new.3) among)
         ])
-        (enough node (frame_to node from (Hello session core links)) taken)
+        (enough node (frame_to node from (hello_body hello)) taken)
 
     few_after_leave : (replacement : Option (List ℕ)) → IfSome replacement (IsName (settings_of node))
         → is_strange node (frame_to node from (Leave replacement)) ≡ false → length (rows (told_leave node.ties from replacement).table) ≤ 255
@@ -185,8 +188,7 @@ module _ (node : NodeState) (sound : IsSoundNode node) where
   case_sound {cause = cause} (Greets {from = from} {session = session} {depth = depth} before) at said =
       keeps node sound _ refl refl (asked_few {cause = cause} ByTell said)
       (parents-opened (settings_of node) node.sessions (Node from session) depth 1 sound.parents (said.0, said.1.session_least)) sound.cast_parents
-  case_sound (IsGreeted {from = from} {session = session} {core = core} {links = links}) at said =
-      relinked _ refl refl (few_after_hello from said.0 session core links said.1.1.names said.2) refl refl
+  case_sound (IsGreeted {from = from}) at said = relinked _ refl refl (few_after_hello from said.0 _ said.1.1.names said.2) refl refl
   case_sound (IsCoreNow keeps_on) at said = record {
     pairs = sound.pairs;
     alone = λ none. absurd (true≢false none);

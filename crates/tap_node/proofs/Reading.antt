@@ -4,6 +4,7 @@ use Rattle.std.specs.Prelude.{IsOkAnd}
 use Rattle.tap_wire.specs.declared.fault.WireFault.{WireFault}
 use Rattle.tap_wire.specs.declared.fault.WireFault.TheVariants as wire
 use Rattle.tap_wire.specs.declared.frame.Frame.{Frame}
+use Rattle.tap_wire.specs.declared.kind.Kind.TheVariants.{Cast}
 use Rattle.tap_wire.specs.Kind.{has_list, kind_of}
 use Rattle.tap_wire.specs.Reading.{WantsMemory, frame_of}
 use Rattle.tap_rule.specs.Node.{settings_of}
@@ -24,6 +25,10 @@ module _ (node : NodeValue) (bytes : List ℕ) (runs : node.ended ≡ false) whe
   abbrev IsWanted : Frame → Type 0
   IsWanted frame = IsTrue (has_list (kind_of frame.body) || is_taken node.state frame)
 
+  -- it is taken, if it is a Cast
+  abbrev IsTakenCast : Frame → Type 0
+  IsTakenCast frame = kind_of frame.body ≡ Cast → IsTrue (is_taken node.state frame)
+
   -- of a frame with a list, and of one that is taken
   of_list : (frame : Frame) → IsTrue (has_list (kind_of frame.body)) → IsWanted frame
   of_list frame list = listed (has_list (kind_of frame.body)) list
@@ -42,21 +47,33 @@ module _ (node : NodeValue) (bytes : List ℕ) (runs : node.ended ≡ false) whe
   pub wants_taken : (frame : Frame) → frame_of (settings_of node.state) bytes ≡ Ok frame → IsTrue (is_taken node.state frame)
       → MayWant node bytes
   wants_taken frame read is =
-      record { runs = runs; read = rw read refl; wanted = subst (λ r. IsOkAnd r IsWanted) (sym read) (of_taken frame is) }
+      record {
+        runs = runs;
+        read = rw read refl;
+        wanted = subst (λ r. IsOkAnd r IsWanted) (sym read) (of_taken frame is);
+        letters = subst (λ r. IsOkAnd r IsTakenCast) (sym read) (λ _. is);
+      }
 
   read_wanted : (read : Result Frame WireFault) → WantsMemory read → IsOkAnd read IsWanted
   read_wanted (Ok frame) list = of_list frame list
   read_wanted (Err cause) list = absurd list
 
+  -- what isn't a Cast
+  read_other : (read : Result Frame WireFault) → IsOkAnd read (λ frame. kind_of frame.body ≢ Cast) → IsOkAnd read IsTakenCast
+  read_other (Ok frame) other = λ cast. absurd (other cast)
+  read_other (Err cause) other = absurd other
+
   read_ok : (read : Result Frame WireFault) → WantsMemory read → IsOk read
   read_ok (Ok frame) list = refl
   read_ok (Err cause) list = absurd list
 
-  pub wants_read : WantsMemory (frame_of (settings_of node.state) bytes) → MayWant node bytes
-  wants_read list = record {
+  pub wants_read : WantsMemory (frame_of (settings_of node.state) bytes)
+      → IsOkAnd (frame_of (settings_of node.state) bytes) (λ frame. kind_of frame.body ≢ Cast) → MayWant node bytes
+  wants_read list other = record {
     runs = runs;
     read = read_ok (frame_of (settings_of node.state) bytes) list;
     wanted = read_wanted (frame_of (settings_of node.state) bytes) list;
+    letters = read_other (frame_of (settings_of node.state) bytes) other;
   }
 
 -- the cause of want of memory, and of each other fault

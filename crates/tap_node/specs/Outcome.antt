@@ -5,6 +5,7 @@ use Rattle.std.specs.Prelude.{◌≡◌, ◌≢◌, ℕ, Bool, true, false, not,
 use Rattle.tap_wire.specs.declared.fault.WireFault.{WireFault}
 use Rattle.tap_wire.specs.declared.fault.WireFault.TheVariants as wire
 use Rattle.tap_wire.specs.declared.frame.Frame.{Frame}
+use Rattle.tap_wire.specs.declared.kind.Kind.TheVariants.{Cast}
 use Rattle.tap_wire.specs.Kind.{has_list, kind_of}
 use Rattle.tap_wire.specs.Reading.{frame_of}
 use Rattle.tap_rule.specs.Node.{NodeState, name_of, settings_of}
@@ -66,11 +67,12 @@ unfoldable pub is_taken : NodeState → Frame → Bool
 is_taken node frame = is_own_name node frame.to && not (is_strange node frame)
 
 -- Memory may be wanted for bytes: the node takes steps, and they are a frame. It is wanted to read a frame that has a list, whosever
--- it is, and for the step that a frame makes the node take.
+-- it is, and for the step that a frame makes the node take. The letters of a Cast fit in place, so it wants memory only if it is taken.
 pub record MayWant (node : NodeValue) (bytes : List ℕ) : Type 0 where
   pub runs : node.ended ≡ false
   pub read : IsOk (frame_of (settings_of node.state) bytes)
   pub wanted : IsOkAnd (frame_of (settings_of node.state) bytes) (λ frame. IsTrue (has_list (kind_of frame.body) || is_taken node.state frame))
+  pub letters : IsOkAnd (frame_of (settings_of node.state) bytes) (λ frame. kind_of frame.body ≡ Cast → IsTrue (is_taken node.state frame))
 
 -- The answer and the node afterwards are those of an outcome, unless memory was refused, which it is only to a node that takes
 -- steps, and which ends it. The name and the settings stay.

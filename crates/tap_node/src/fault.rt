@@ -4,8 +4,8 @@ use tap_name::Name;
 use tap_wire::WireFault;
 
 /// Why a node took no step. `Ended` goes before all others, and of `Wire`, `NotMine` and `Strange` the first that is so is the answer.
-/// `NoMemory` may come in place of a step. In place of `NotMine` or `Strange` it may come of a frame with a list alone, to read which
-/// takes memory. All but `NoMemory` leave the node as it was.
+/// `NoMemory` may come in place of a step. In place of `NotMine` or `Strange` it may come of a frame with slots or links alone, which is a
+/// Tell or a Hello: to read it takes memory. All but `NoMemory` leave the node as it was.
 ///
 /// Rule: docs/PROTOCOL.md, "Refused frames".
 #[derive(Clone, Copy, Debug, PartialEq, Eq)]

@@ -192,8 +192,8 @@ impl Node {
     ///
     /// A refusal leaves the node as it was. `Ended` goes before all others. `Wire` carries why the bytes are no frame,
     /// `NotMine` the receiver if it is another node, and `Strange` comes if the frame is strange to the node. `NoMemory` comes
-    /// in place of the step, or if the frame has a list, to read which takes memory; then also in place of `NotMine` and `Strange`.
-    /// It ends the node. There is room for a step.
+    /// in place of the step, or if the frame has slots or links, to read which takes memory; then also in place of `NotMine` and
+    /// `Strange`. A Cast has letters, which fit in place. `NoMemory` ends the node. There is room for a step.
     ///
     /// Rule: docs/PROTOCOL.md, "Steps of a node" and "Refused frames".
     #[inline(always)]

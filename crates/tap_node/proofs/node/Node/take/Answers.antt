@@ -27,7 +27,7 @@ returns-in-Err-clause-memory c refused =
     let wants : c.from.result ≡ fault.NoMemory = cc in
     let cause : c.in-Err.cause ≡ wire.NoMemory = wanting_cause c.in-Err.cause c.from.result c.from.ensures wants in
     wants_read c.args.self.now c.args.bytes.now (sym c.is_ended.ensures ∙ c.if-is_ended.false)
-    (rw same (c.decode.ensures.memory (c.in-Err.is ∙ ap Err cause)))
+    (rw same (c.decode.ensures.memory (c.in-Err.is ∙ ap Err cause))) (rw same (c.decode.ensures.letters (c.in-Err.is ∙ ap Err cause)))
 
 pub returns-in-Err-clause-outcome : goal.returns-in-Err-clause-outcome
 returns-in-Err-clause-outcome c =
