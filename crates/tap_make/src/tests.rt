@@ -137,7 +137,7 @@ fn with_byte(digest: u64, byte: u8) -> u64 {
 // The digest with the digits of a name.
 fn with_name(digest: u64, name: &Name) -> u64 {
     let mut digest = digest;
-    for digit in name.as_slice() {
+    for digit in name.digits().as_slice() {
         digest = with_byte(digest, *digit);
     }
     digest

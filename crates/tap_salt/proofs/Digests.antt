@@ -1,4 +1,5 @@
 -- a digest is 20 bytes, and so its halves are a name of 40 digits
+-- Cited above: name_of_bytes-IsName
 use Rattle.std.proofs.Common.{◌≡◌, ◌*◌, ◌<◌, ◌==◌, ◌∙◌, ℕ, zero, suc, true, List, length, slice_index, All, arith, refl, ap, sym, length-append}
 use Rattle.std.specs.Int.{w32, byte_at, bytes_high_first, to_be_bytes}
 use Rattle.std.proofs.lemmas.Bool.{and_parts, eqb-true}
@@ -6,8 +7,9 @@ use Rattle.std.proofs.lemmas.List.Elements.{All-nil, All-cons, All-append}
 use Rattle.sha1.specs.Sha1.{digest_bytes, sha1}
 use Rattle.tap_name.specs.Settings.{SettingsValue}
 use Rattle.tap_name.specs.Name.{IsName}
-use Rattle.tap_salt.specs.Salt.{halves, is_salted, name_of_bytes}
-use Rattle.tap_salt.proofs.Halves.{halves-length, halves-digits}
+use Rattle.tap_name.specs.Packed.{halves}
+use Rattle.tap_name.proofs.Halves.{halves-length, halves-digits}
+use Rattle.tap_salt.specs.Salt.{is_salted, name_of_bytes}
 
 word_length : (word : ℕ) → length (to_be_bytes w32 word) ≡ 4
 word_length word = refl

@@ -1,26 +1,12 @@
 -- the halves of bytes, and those of one byte more written into a list of digits
-use Rattle.std.proofs.Common.{◌≡◌, ◌++◌, ◌+◌, ◌-◌, ◌*◌, ◌/◌, ◌%◌, ◌<◌, ◌∙◌, ℕ, suc, List, [], ◌∷◌, take, replicate, length, set, get_or, take_all, All, refl, ap, arith}
+use Rattle.std.proofs.Common.{◌≡◌, ◌++◌, ◌+◌, ◌-◌, ◌*◌, ◌/◌, ◌%◌, ◌<◌, ◌∙◌, ℕ, suc, List, [], ◌∷◌, take, replicate, length, set, get_or, take_all, refl, ap, arith}
 use Rattle.std.proofs.lemmas.List.{take_more, length-take-le, append-nil, append_assoc, set-append_right}
-use Rattle.std.proofs.lemmas.List.Elements.{All-nil, All-cons, All-head, All-tail}
-use Rattle.tap_salt.specs.Salt.{halves}
+use Rattle.tap_name.specs.Packed.{halves}
+use Rattle.tap_name.proofs.Halves.{halves-length}
 
 halves_last : (bytes : List ℕ) (byte : ℕ) → halves (bytes ++ byte ∷ []) ≡ halves bytes ++ byte / 16 ∷ byte % 16 ∷ []
 halves_last [] byte = refl
 halves_last (first ∷ others) byte = ap (λ digits. first / 16 ∷ first % 16 ∷ digits) (halves_last others byte)
-
--- there are two for each byte
-pub halves-length : (bytes : List ℕ) → length (halves bytes) ≡ 2 * length bytes
-halves-length [] = refl
-halves-length (byte ∷ bytes) = omega (arith, halves-length bytes)
-
--- each is a digit of base 16
-pub halves-digits : (bytes : List ℕ) → All (λ byte. byte < 256) bytes → All (λ digit. digit < 16) (halves bytes)
-halves-digits [] below = All-nil (λ digit. digit < 16)
-halves-digits (byte ∷ bytes) below =
-    let byte_below : byte < 256 = All-head (λ byte. byte < 256) byte bytes below in
-    let others = halves-digits bytes (All-tail (λ byte. byte < 256) byte bytes below) in
-    All-cons (λ digit. digit < 16) (byte / 16) (byte % 16 ∷ halves bytes) (omega arith)
-    (All-cons (λ digit. digit < 16) (byte % 16) (halves bytes) (omega arith) others)
 
 zeros : (many left : ℕ) → many ≡ suc (suc left) → replicate {A = ℕ} many 0 ≡ 0 ∷ 0 ∷ replicate left 0
 zeros many left is = ap (λ n. replicate {A = ℕ} n 0) is

@@ -1,4 +1,4 @@
 mod Halves
-mod Digests
+pub mod Digests
 mod Roots
-mod SaltLaws
+pub mod SaltLaws

@@ -1,4 +1,5 @@
 -- the salts of an object are names, and have roots
+-- Cited above: salts_are_names_holds, salts_have_roots_holds
 use Rattle.std.proofs.Common.{◌≡◌, ℕ, List, [], ◌∷◌, ◌++◌, map, true, Some, refl, inl, inr, ap}
 use Rattle.std.specs.List.{filter_map}
 use Rattle.tap_name.specs.Settings.{SettingsValue}

@@ -7,4 +7,4 @@ mod salts;
 mod tests;
 
 pub use law::salts_law;
-pub use salts::{name_of, salt};
+pub use salts::{name_of, salt, salts_of};

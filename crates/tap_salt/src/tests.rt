@@ -1,4 +1,4 @@
-use crate::{name_of, salt};
+use crate::{name_of, salt, salts_of};
 use std::test::Fail;
 use tap_name::{Settings, read_name};
 
@@ -38,12 +38,25 @@ fn an_object_has_salts(rt: HostRuntime) -> Result<(), Fail> {
 }
 
 #[test]
+fn the_salts_come_in_their_order(rt: HostRuntime) -> Result<(), Fail> {
+    let settings = salted()?;
+    let object = name_of(&settings, b"abc").ok_or("a name")?;
+    let [first, second, third, fourth] = salts_of(&settings, &object).ok_or("salts")?;
+    assert_eq!(rt; salt(&settings, &object, 1), Some(first));
+    assert_eq!(rt; salt(&settings, &object, 2), Some(second));
+    assert_eq!(rt; salt(&settings, &object, 3), Some(third));
+    assert_eq!(rt; salt(&settings, &object, 4), Some(fourth));
+    Ok(())
+}
+
+#[test]
 fn other_settings_have_no_such_names(rt: HostRuntime) -> Result<(), Fail> {
     for (base, digits) in [(16, 39), (16, 8), (15, 40), (2, 40)] {
         let settings = Settings::new(base, digits, 2).ok_or("settings")?;
         let object = name_of(&salted()?, b"abc").ok_or("a name")?;
         assert_eq!(rt; name_of(&settings, b"abc"), None, "{base} {digits}");
         assert_eq!(rt; salt(&settings, &object, 1), None, "{base} {digits}");
+        assert!(rt; salts_of(&settings, &object).is_none(), "{base} {digits}");
     }
     Ok(())
 }

@@ -1,30 +1,23 @@
 -- the values of an array
-use Rattle.std.proofs.Common.{◌≡◌, ◌∙◌, ℕ, ◌<◌, ◌≤◌, nat_le, arith, inl, inr, if◌then◌else◌, suc, true, false, List, [], ◌∷◌, ◌++◌, append_assoc, length, map, Option, None, Some, Result, Ok, Err, refl, ap}
+use Rattle.std.proofs.Common.{◌≡◌, ◌∙◌, ℕ, ◌+◌, ◌<◌, ◌≤◌, nat_le, arith, inl, inr, if◌then◌else◌, zero, suc, true, false, List, [], ◌∷◌, ◌++◌, length, get_or, drop, map, Option, None, Some, Ok, Err, refl, ap}
 use Rattle.std.specs.Option.{ok_or, option_and_then}
 use Rattle.std.proofs.lemmas.Bool.{cases_Bool, le-leb}
 use Rattle.std.proofs.lemmas.Bool.Decides.{nat_tests}
-use Rattle.std.proofs.lemmas.List.{length-map}
+use Rattle.std.proofs.lemmas.List.{length-map, drop_more}
 use Rattle.toml.specs.declared.value.Value.{Value}
-use Rattle.toml.specs.Data.{Data, string, integer, float, boolean, datetime, array, table, Members as Table}
+use Rattle.toml.specs.Data.{Data, string, integer, float, boolean, datetime, array, table, Members as Table, Items, item, as_str}
 use Rattle.toml.specs.View.{view, items_of, items_view}
 use Rattle.tap_scenario.specs.declared.fault.Fault.{Fault}
 use Rattle.tap_scenario.specs.declared.fault.Fault.TheVariants.{BadValue}
 use Rattle.tap_scenario.specs.declared.fault.Key.{Key}
-use Rattle.tap_scenario.specs.declared.step.Step.{Step}
-use Rattle.tap_scenario.specs.Document.{read_at, with_step}
+use Rattle.tap_scenario.specs.Document.{read_at}
 use Rattle.tap_scenario.specs.Key.{value_at}
-use Rattle.tap_scenario.specs.Fault.{cons_result}
 use Rattle.tap_scenario.specs.Value.{are_strings, array_of_strings, strings_up_to, texts_of}
 
 -- the names so far stand before those to come
 abbrev pub names_before : List (List ℕ) → Option (List (List ℕ)) → Option (List (List ℕ))
 names_before names None = None
 names_before names (Some others) = Some (names ++ others)
-
--- the steps so far stand before those to come
-abbrev pub steps_before : {A : Type 0} → List A → Result (List A) Fault → Result (List A) Fault
-steps_before steps (Err fault) = Err fault
-steps_before steps (Ok others) = Ok (steps ++ others)
 
 texts_of-length : (values : List Data) → are_strings (items_of values) ≡ true → length (texts_of (items_of values)) ≡ length values
 texts_of-length [] h = refl
@@ -72,10 +65,30 @@ many_strings key most t values read strings many =
     let test : nat_le (length (texts_of (items_view values))) most ≡ false = grind (arith, nat_tests) in
     limited (BadValue key) most (value_at key t) (texts_of (items_view values)) read ∙ rw test refl
 
--- one step more so far is one fewer to come
-pub steps_before-with_step : (steps : List Step) (read : Result Step Fault) (all : List Step) (others : Result (List Step) Fault)
-    → with_step steps read ≡ Ok all → steps_before all others ≡ steps_before steps (cons_result read others)
-steps_before-with_step steps (Err fault) all others added = absurd (cc)
-steps_before-with_step steps (Ok step) all (Err fault) added = refl
-steps_before-with_step steps (Ok step) all (Ok others) added =
-    let whole : steps ++ step ∷ [] ≡ all = cc in rw (← whole) (ap Ok (append_assoc steps (step ∷ []) others))
+-- the first of an array of strings has a text
+first_string : (value : Data) (others : Items) → are_strings (item value others) ≡ true
+    → (text : List ℕ) × (as_str value ≡ Some text) × (are_strings others ≡ true) × (texts_of (item value others) ≡ text ∷ texts_of others)
+first_string (string text) others h = (text, refl, h, refl)
+first_string (integer z) others h = absurd (cc)
+first_string (float x) others h = absurd (cc)
+first_string (boolean b) others h = absurd (cc)
+first_string (datetime d) others h = absurd (cc)
+first_string (array items) others h = absurd (cc)
+first_string (table entries) others h = absurd (cc)
+
+strings-drop : (values : List Value) (at : ℕ) → are_strings (items_view values) ≡ true → are_strings (items_view (drop at values)) ≡ true
+strings-drop values zero h = h
+strings-drop [] (suc at) h = h
+strings-drop (value ∷ others) (suc at) h =
+    strings-drop others at (first_string (view value) (items_view others) h).2
+
+-- what an array of strings has at a place is the first of the texts from there on
+pub text_at : (values : List Value) (at : ℕ) (value : Value) → are_strings (items_view values) ≡ true → at < length values
+    → value ≡ get_or values at value
+    → (text : List ℕ) × (as_str (view value) ≡ Some text)
+    × (texts_of (items_view (drop at values)) ≡ text ∷ texts_of (items_view (drop (at + 1) values)))
+text_at values at value strings inside is =
+    let here : drop at values ≡ value ∷ drop (at + 1) values = rw (← is) at (drop_more values at value inside) in
+    let left : are_strings (items_view (value ∷ drop (at + 1) values)) ≡ true = rw here at (strings-drop values at strings) in
+    let first = first_string (view value) (items_view (drop (at + 1) values)) left in
+    (first.0, first.1, ap (λ (those : List Value). texts_of (items_view those)) here ∙ first.3)

@@ -3,10 +3,13 @@ mod Bytes
 mod Casts
 mod Keys
 mod Members
-mod Numbers
+pub mod Numbers
 pub mod Options
+mod OtherSettings
 mod Pairs
+mod PlainSteps
 mod Scripts
 mod Shapes
-mod Splits
+mod Spellings
+pub mod Splits
 pub mod StepTexts

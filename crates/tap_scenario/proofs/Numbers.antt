@@ -1,4 +1,5 @@
 -- a number and its text
+-- Cited above: no_space_decimal, number_below-back, number_below-decimal
 use Rattle.std.proofs.Common.{◌≡◌, ◌==◌, ◌&&◌, ℕ, ◌^◌, ◌<◌, nat_lt, true, false, bytes_eq, arith, List, [], ◌∷◌, Option, None, Some, refl, ap, subst, ◌∙◌, inl, inr}
 use Rattle.std.specs.Prelude.{decimal}
 use Rattle.std.specs.Str.Parse.{AllDigits, digits_value}

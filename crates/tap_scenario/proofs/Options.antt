@@ -1,9 +1,10 @@
 -- what a value that was found says of what it was found from
--- Cited above: option_map-back
-use Rattle.std.proofs.Common.{◌≡◌, Bool, true, List, [], ◌∷◌, Option, None, Some, Ok, option_map, refl, ap, inl, inr}
+-- Cited above: and_then-back, find-passes, option_map-back
+use Rattle.std.proofs.Common.{◌≡◌, Bool, true, List, [], ◌∷◌, Option, None, Some, Ok, option_map, ◌⊎◌, refl, ap, inl, inr}
 use Rattle.std.specs.List.{find}
-use Rattle.std.specs.Option.{ok_or, option_and_then, option_zip}
+use Rattle.std.specs.Option.{ok_or, option_and_then, option_or, option_zip}
 use Rattle.std.proofs.lemmas.Bool.{cases_Bool}
+use Rattle.tap_scenario.specs.Value.{cons_both}
 
 -- the value that was mapped
 pub option_map-back : {A B : Type 0} (f : A → B) (o : Option A) (y : B) → option_map f o ≡ Some y → (x : A) × (o ≡ Some x) × (f x ≡ y)
@@ -37,3 +38,20 @@ find-passes test (y ∷ ys) x found =
       | inl passes ↦ let whole : Some y ≡ Some x = rw passes at found in let same : y ≡ x = cc in rw (← same) passes
       | inr fails ↦ find-passes test ys x (rw fails at found)
     ]
+
+-- both that stand at the front and after it
+pub cons_both-back : {A : Type 0} (first : Option A) (others : Option (List A)) (all : List A) → cons_both first others ≡ Some all
+    → (x : A) × (xs : List A) × (first ≡ Some x) × (others ≡ Some xs) × (x ∷ xs ≡ all)
+cons_both-back None others all e = absurd (cc)
+cons_both-back (Some x) None all e = absurd (cc)
+cons_both-back (Some x) (Some xs) all e = (x, xs, refl, refl, cc)
+
+-- the one of two that is there
+pub option_or-back : {A : Type 0} (a b : Option A) (x : A) → option_or a b ≡ Some x → (a ≡ Some x) ⊎ (b ≡ Some x)
+option_or-back None b x e = inr e
+option_or-back (Some y) b x e = inl e
+
+-- neither of two is there
+pub option_or-None : {A : Type 0} (a b : Option A) → option_or a b ≡ None → a ≡ None
+option_or-None None b e = refl
+option_or-None (Some y) b e = absurd (cc)

@@ -1,28 +1,32 @@
 -- what is read is within its limits
-use Rattle.std.proofs.Common.{◌≡◌, ◌∙◌, ◌&&◌, ℕ, suc, ◌+◌, ◌≤◌, nat_le, Bool, true, false, IsTrue, pos, negsuc, arith, List, [], ◌∷◌, length, All, if◌then◌else◌, Option, None, Some, Result, Ok, Err, refl, ap, inl, inr}
+use Rattle.std.proofs.Common.{◌≡◌, ◌&&◌, ℕ, suc, ◌+◌, ◌≤◌, nat_le, Bool, IsTrue, pos, negsuc, arith, List, [], ◌∷◌, ◌++◌, length, length-append, All, None, Some, Result, Ok, Err, refl, ap, inl, inr}
+use Rattle.std.specs.List.{list_all}
 use Rattle.std.specs.Option.{option_and_then, is_some}
 use Rattle.std.proofs.lemmas.Bool.{cases_Bool, and_parts, leb-true}
 use Rattle.std.proofs.lemmas.Bool.Decides.{nat_tests}
-use Rattle.std.proofs.lemmas.List.Elements.{All-nil, All-cons}
+use Rattle.std.proofs.lemmas.List.Elements.{All-nil, All-cons, All-append}
+use Rattle.std.proofs.lemmas.List.Sums.{AllPass-from_list_all}
 use Rattle.toml.specs.Data.{Data, string, integer, float, boolean, datetime, array, table, Members as Table}
 use Rattle.tap_name.specs.Settings.{SettingsValue, AreWithinLimits}
-use Rattle.tap_name.specs.Name.{IsName, name_of_word}
+use Rattle.tap_name.specs.Name.{IsName}
 use Rattle.tap_name.specs.Names.{are_distinct, AreDistinct}
 use Rattle.tap_scenario.specs.declared.fault.Key.{Key}
-use Rattle.tap_scenario.specs.declared.fault.Key.TheVariants.{Base, Digits, Width, Frames, Carrier, Members, Steps}
+use Rattle.tap_scenario.specs.declared.fault.Key.TheVariants.{Base, Digits, Width, Frames, Members, Steps}
 use Rattle.tap_scenario.specs.declared.fault.Fault.{Fault}
 use Rattle.tap_scenario.specs.declared.fault.Fault.TheVariants.{BadValue, BadStep}
 use Rattle.tap_scenario.specs.declared.step.Step.{Step}
-use Rattle.tap_scenario.specs.Document.{read_at, settings_of_table, default_frames, frames_of_table, carrier_of_table, members_of_table, if_played, numbered_step, steps_from, steps_of_table}
+use Rattle.tap_scenario.specs.Document.{read_at, settings_of_table, default_frames, frames_of_table, members_of_table, steps_with, numbered_steps, steps_from, steps_of_table}
 use Rattle.tap_scenario.specs.Key.{value_at}
 use Rattle.tap_scenario.specs.Scenario.{CanBePlayed, IsScript, most_frames, most_members, most_steps}
-use Rattle.tap_scenario.specs.Step.{IsStep, step_of_text, is_played}
-use Rattle.tap_scenario.specs.Fault.{◌>>=◌, cons_result}
-use Rattle.tap_scenario.specs.Value.{whole_number, carrier_of, array_of_strings, strings_up_to, cons_both, names_of_texts, distinct_names, members_of_texts}
+use Rattle.tap_scenario.specs.Spelling.{name_in}
+use Rattle.tap_scenario.specs.Spread.{steps_of_text}
+use Rattle.tap_scenario.specs.Step.{IsStep, is_played}
+use Rattle.tap_scenario.specs.Fault.{◌>>=◌}
+use Rattle.tap_scenario.specs.Value.{whole_number, array_of_strings, strings_up_to, names_of_texts, distinct_names, members_of_texts}
 use Rattle.tap_name.proofs.Membership.{are_distinct-Decides}
-use Rattle.tap_name.proofs.Texts.{name_of_word-back}
-use Rattle.tap_scenario.proofs.Options.{and_then-back, ok_or-Ok}
-use Rattle.tap_scenario.proofs.StepTexts.{step_of_text-back}
+use Rattle.tap_scenario.proofs.Options.{and_then-back, ok_or-Ok, cons_both-back}
+use Rattle.tap_scenario.proofs.Spellings.{name_in-IsName}
+use Rattle.tap_scenario.proofs.PlainSteps.{steps_of_text-IsStep}
 
 then-Ok : {A B : Type 0} (r : Result A Fault) (next : A → Result B Fault) (y : B) → (r >>= next) ≡ Ok y
     → (x : A) × (r ≡ Ok x) × (next x ≡ Ok y)
@@ -77,21 +81,15 @@ frames_of_table-limits p t n e =
           rw (← is) (default_frames-limits p.digits)
     ]
 
-cons_both-Some : {A : Type 0} (first : Option A) (others : Option (List A)) (all : List A) → cons_both first others ≡ Some all
-    → (x : A) × (xs : List A) × (first ≡ Some x) × (others ≡ Some xs) × (x ∷ xs ≡ all)
-cons_both-Some None others all e = absurd (cc)
-cons_both-Some (Some x) None all e = absurd (cc)
-cons_both-Some (Some x) (Some xs) all e = (x, xs, refl, refl, cc)
-
 names_of_texts-names : (p : SettingsValue) (texts : List (List ℕ)) (names : List (List ℕ)) → p.base ≤ 16
     → names_of_texts p texts ≡ Some names
     → (length names ≡ length texts) × All (IsName p) names
 names_of_texts-names p [] names small e = let none : [] ≡ names = cc in rw (← none) (refl, All-nil (IsName p))
 names_of_texts-names p (text ∷ others) names small e =
-    let parts = cons_both-Some (name_of_word p text) (names_of_texts p others) names e in
-    let first = name_of_word-back p text parts.0 small parts.2 in
+    let parts = cons_both-back (name_in p text) (names_of_texts p others) names e in
+    let first = name_in-IsName p text parts.0 small parts.2 in
     let rest = names_of_texts-names p others parts.1 small parts.3 in
-    rw (← parts.4) (ap suc rest.0, All-cons (IsName p) parts.0 parts.1 first.1 rest.1)
+    rw (← parts.4) (ap suc rest.0, All-cons (IsName p) parts.0 parts.1 first rest.1)
 
 -- what a script has of its members
 record AreMembers (p : SettingsValue) (names : List (List ℕ)) : Type 0 where
@@ -132,62 +130,62 @@ members_of_table-limits p t names small e =
     let texts = then-Ok (read_at Members array_of_strings t) _ names e in
     members_of_texts-limits p texts.0 names small (ok_or-Ok _ (BadValue Members) names texts.2)
 
-cons_result-Ok : {A : Type 0} (first : Result A Fault) (others : Result (List A) Fault) (all : List A) → cons_result first others ≡ Ok all
-    → (x : A) × (xs : List A) × (first ≡ Ok x) × (others ≡ Ok xs) × (x ∷ xs ≡ all)
-cons_result-Ok (Err fault) others all e = absurd (cc)
-cons_result-Ok (Ok x) (Err fault) all e = absurd (cc)
-cons_result-Ok (Ok x) (Ok xs) all e = (x, xs, refl, refl, cc)
-
 -- a step of these settings that a run takes
 record IsRunning (p : SettingsValue) (carrier : Bool) (step : Step) : Type 0 where
   is_step : IsStep p carrier step
   runs : IsTrue (is_played step)
 
-if_played-Some : (read step : Step) → if_played read ≡ Some step → (read ≡ step) × IsTrue (is_played step)
-if_played-Some read step e =
-    elim (cases_Bool (is_played read)) [
-      | inr other ↦ absurd (let none : None ≡ Some step = rw other at e in cc)
-      | inl runs ↦ let whole : Some read ≡ Some step = rw runs at e in let same : read ≡ step = cc in (same, rw (← same) runs)
+-- at most as many steps as a scenario may have, each of them such a step
+record AreRunning (p : SettingsValue) (carrier : Bool) (steps : List Step) : Type 0 where
+  few : length steps ≤ most_steps
+  each : All (IsRunning p carrier) steps
+
+steps_with-back : (p : SettingsValue) (carrier : Bool) (before steps all : List Step) → All (IsRunning p carrier) before
+    → All (IsStep p carrier) steps → steps_with before steps ≡ Some all → AreRunning p carrier all
+steps_with-back p carrier before steps all running are e =
+    elim (cases_Bool (list_all is_played steps && nat_le (length before + length steps) most_steps)) [
+      | inr other ↦ absurd (let none : None ≡ Some all = rw other at e in cc)
+      | inl both ↦
+          let tests = and_parts (list_all is_played steps) (nat_le (length before + length steps) most_steps) both in
+          let few = leb-true (length before + length steps) most_steps tests.1 in
+          let runs = AllPass-from_list_all is_played steps tests.0 in
+          let whole : Some (before ++ steps) ≡ Some all = rw both at e in
+          let same : before ++ steps ≡ all = cc in
+          rw (← same) (record {
+            few = omega (arith, length-append before steps);
+            each =
+                All-append (IsRunning p carrier) before steps running (λ k d h. record { is_step = are k d h; runs = runs k d h });
+          })
     ]
 
-numbered_step-Ok : (p : SettingsValue) (carrier : Bool) (number : ℕ) (text : List ℕ) (step : Step) → p.base ≤ 16
-    → numbered_step p carrier number text ≡ Ok step → IsRunning p carrier step
-numbered_step-Ok p carrier number text step small e =
-    let told = ok_or-Ok (option_and_then if_played (step_of_text p carrier text)) (BadStep number) step e in
-    let read = and_then-back if_played (step_of_text p carrier text) step told in
-    let runs = if_played-Some read.0 step read.2 in
-    record { is_step = (step_of_text-back p carrier text step small (read.1 ∙ ap Some runs.0)).1; runs = runs.1 }
+numbered_steps-Ok : (p : SettingsValue) (carrier : Bool) (number : ℕ) (before : List Step) (text : List ℕ) (all : List Step)
+    → p.base ≤ 16 → All (IsRunning p carrier) before → numbered_steps p carrier number before text ≡ Ok all → AreRunning p carrier all
+unfolding numbered_steps
+numbered_steps-Ok p carrier number before text all small running e =
+    let told = ok_or-Ok (option_and_then (steps_with before) (steps_of_text p carrier text)) (BadStep number) all e in
+    let read = and_then-back (steps_with before) (steps_of_text p carrier text) all told in
+    steps_with-back p carrier before read.0 all running (steps_of_text-IsStep p carrier text read.0 small read.1) read.2
 
-steps_from-limits : (p : SettingsValue) (carrier : Bool) (number : ℕ) (texts : List (List ℕ)) (steps : List Step) → p.base ≤ 16
-    → steps_from p carrier number texts ≡ Ok steps → (length steps ≡ length texts) × All (IsRunning p carrier) steps
-steps_from-limits p carrier number [] steps small e = let none : [] ≡ steps = cc in rw (← none) (refl, All-nil (IsRunning p carrier))
-steps_from-limits p carrier number (text ∷ others) steps small e =
-    let parts = cons_result-Ok (numbered_step p carrier number text) (steps_from p carrier (number + 1) others) steps e in
-    let first = numbered_step-Ok p carrier number text parts.0 small parts.2 in
-    let rest = steps_from-limits p carrier (number + 1) others parts.1 small parts.3 in
-    rw (← parts.4) (ap suc rest.0, All-cons (IsRunning p carrier) parts.0 parts.1 first rest.1)
+-- the steps of a string more
+pub steps_from-more : (p : SettingsValue) (carrier : Bool) (number : ℕ) (before : List Step) (text : List ℕ) (others : List (List ℕ))
+    (after : List Step) → numbered_steps p carrier number before text ≡ Ok after
+    → steps_from p carrier number before (text ∷ others) ≡ steps_from p carrier (number + 1) after others
+steps_from-more p carrier number before text others after e = rw e refl
 
-strings_up_to-few : (most : ℕ) (value : Data) (texts : List (List ℕ)) → strings_up_to most value ≡ Some texts → length texts ≤ most
-strings_up_to-few most value texts e =
-    let test = λ (read : List (List ℕ)). if nat_le (length read) most then Some read else None in
-    let found = and_then-back test (array_of_strings value) texts e in
-    elim (cases_Bool (nat_le (length found.0) most)) [
-      | inr many ↦ absurd (let none : None ≡ Some texts = rw many at found.2 in cc)
-      | inl few ↦
-          let whole : Some found.0 ≡ Some texts = rw few at found.2 in
-          let same : found.0 ≡ texts = cc in
-          rw (← same) (leb-true (length found.0) most few)
-    ]
+steps_from-limits : (p : SettingsValue) (carrier : Bool) (number : ℕ) (before : List Step) (texts : List (List ℕ)) (steps : List Step)
+    → p.base ≤ 16 → AreRunning p carrier before → steps_from p carrier number before texts ≡ Ok steps → AreRunning p carrier steps
+steps_from-limits p carrier number before [] steps small are e = let same : before ≡ steps = cc in rw (← same) are
+steps_from-limits p carrier number before (text ∷ others) steps small are e =
+    let read = then-Ok (numbered_steps p carrier number before text) (λ more. steps_from p carrier (number + 1) more others) steps e in
+    steps_from-limits p carrier (number + 1) read.0 others steps small
+    (numbered_steps-Ok p carrier number before text read.0 small are.each read.1) read.2
 
 steps_of_table-limits : (p : SettingsValue) (carrier : Bool) (t : Table) (steps : List Step) → p.base ≤ 16
-    → steps_of_table p carrier t ≡ Ok steps → (length steps ≤ most_steps) × All (IsRunning p carrier) steps
+    → steps_of_table p carrier t ≡ Ok steps → AreRunning p carrier steps
 steps_of_table-limits p carrier t steps small e =
     let texts = then-Ok (read_at Steps (strings_up_to most_steps) t) _ steps e in
-    let told = ok_or-Ok (option_and_then (strings_up_to most_steps) (value_at Steps t)) (BadValue Steps) texts.0 texts.1 in
-    let value = and_then-back (strings_up_to most_steps) (value_at Steps t) texts.0 told in
-    let few = strings_up_to-few most_steps value.0 texts.0 value.2 in
-    let read = steps_from-limits p carrier 1 texts.0 steps small texts.2 in
-    (omega arith, read.1)
+    let none : AreRunning p carrier [] = record { few = omega arith; each = All-nil (IsRunning p carrier) } in
+    steps_from-limits p carrier 1 [] texts.0 steps small none texts.2
 
 -- the parts that a table gives are a script's
 pub IsScript-parts : (t : Table) (p : SettingsValue) (frames : ℕ) (carrier : Bool) (members : List (List ℕ)) (steps : List Step)
@@ -207,8 +205,8 @@ IsScript-parts t p frames carrier members steps is_p is_frames is_members is_ste
       members_to = names.to;
       members = names.are_names;
       distinct = names.distinct;
-      steps_to = read.0;
-      steps = λ k d h. (read.1 k d h).is_step;
+      steps_to = read.few;
+      steps = λ k d h. (read.each k d h).is_step;
     }
 
 -- a run takes a scenario of the parts that a table gives
@@ -218,4 +216,4 @@ pub CanBePlayed-parts : (t : Table) (p : SettingsValue) (frames : ℕ) (carrier 
 CanBePlayed-parts t p frames carrier members steps is_p is_steps =
     let settings = settings_of_table-limits t p is_p in
     let read = steps_of_table-limits p carrier t steps settings.base_to is_steps in
-    record { steps = λ k d h. (read.1 k d h).runs }
+    record { steps = λ k d h. (read.each k d h).runs }

@@ -1,4 +1,5 @@
 -- a text and its words
+-- Cited above: words-join
 use Rattle.std.proofs.Common.{◌≡◌, ◌==◌, ℕ, ◌+◌, ◌≤◌, nat_lt, arith, List, [], ◌∷◌, length, take, drop, None, Some, position, refl, ap, ◌∙◌, inl, inr}
 use Rattle.std.specs.List.{position_or_len, join_with_byte, AllByRecursion}
 use Rattle.std.proofs.lemmas.Bool.{cases_Bool, ltb-true, ltb-false}

@@ -1,5 +1,5 @@
 -- a step and its text
--- Cited above: step_of_text-text
+-- Cited above: no_space, step_of_text-back, step_of_text-text
 use Rattle.std.proofs.Common.{◌≡◌, ◌==◌, ◌&&◌, ◌↔◌, ℕ, ◌^◌, ◌<◌, ◌≤◌, Bool, true, false, not, bytes_eq, arith, List, [], ◌∷◌, append_assoc, codes, decimal, None, Some, option_map, if◌then◌else◌, refl, ap, sym, subst, ◌∙◌, inl, inr}
 use Rattle.std.specs.List.{join_with_byte, list_all}
 use Rattle.std.specs.Option.{option_zip}
@@ -341,7 +341,7 @@ step_of_kind-back p true shape.Tick others step small there read = tick_step p o
 step_of_kind-back p false shape.Tick others step small there read = absurd (let other : false ≡ true = there in cc)
 step_of_kind-back p carrier shape.Cast others step small there read = cast_step p carrier others step small read
 
-step_of_words-back : (p : SettingsValue) (carrier : Bool) (read : List (List ℕ)) (step : Step) → p.base ≤ 16
+pub step_of_words-back : (p : SettingsValue) (carrier : Bool) (read : List (List ℕ)) (step : Step) → p.base ≤ 16
     → step_of_words p carrier read ≡ Some step → IsWordsOfStep p carrier read step
 step_of_words-back p carrier [] step small told = absurd (cc)
 step_of_words-back p carrier (word ∷ others) step small read =

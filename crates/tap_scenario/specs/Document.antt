@@ -1,5 +1,6 @@
 -- the scenario that a text is, over the TOML table that it writes
-use Rattle.std.specs.Prelude.{ℕ, ◌+◌, nat_le, Bool, false, List, [], ◌∷◌, ◌++◌, Option, None, Some, is_some, ok_or, option_and_then, Result, Ok, Err, if◌then◌else◌}
+use Rattle.std.specs.Prelude.{ℕ, ◌+◌, nat_le, Bool, false, ◌&&◌, List, [], ◌∷◌, ◌++◌, length, Option, None, Some, is_some, ok_or, option_and_then, Result, Ok, Err, if◌then◌else◌}
+use Rattle.std.specs.List.{list_all}
 use Rattle.std.specs.Str.{is_utf8}
 use Rattle.toml.specs.Data.{Data, Members as Table}
 use Rattle.toml.specs.Parse.{parse_document}
@@ -11,8 +12,9 @@ use Rattle.tap_scenario.specs.declared.fault.Fault.TheVariants.{NotUtf8, NotToml
 use Rattle.tap_scenario.specs.declared.step.Step.{Step}
 use Rattle.tap_scenario.specs.Key.{value_at, wrong_key}
 use Rattle.tap_scenario.specs.Scenario.{ScenarioValue, most_frames, most_steps}
-use Rattle.tap_scenario.specs.Step.{step_of_text, is_played}
-use Rattle.tap_scenario.specs.Fault.{◌>>=◌, cons_result}
+use Rattle.tap_scenario.specs.Spread.{steps_of_text}
+use Rattle.tap_scenario.specs.Step.{is_played}
+use Rattle.tap_scenario.specs.Fault.{◌>>=◌}
 use Rattle.tap_scenario.specs.Value.{whole_number, carrier_of, array_of_strings, strings_up_to, members_of_texts}
 
 -- what the value under a key is read as, if it is as it has to be
@@ -44,28 +46,25 @@ carrier_of_table table = if is_some (value_at Carrier table) then read_at Carrie
 abbrev pub members_of_table : SettingsValue → Table → Result (List (List ℕ)) Fault
 members_of_table p table = read_at Members array_of_strings table >>= (λ texts. ok_or (members_of_texts p texts) (BadValue Members))
 
--- a step that a run takes
-abbrev pub if_played : Step → Option Step
-if_played step = if is_played step then Some step else None
+-- these steps and then those of a string, if a run takes each of them and a scenario may have so many
+abbrev pub steps_with : List Step → List Step → Option (List Step)
+steps_with before steps =
+    if list_all is_played steps && nat_le (length before + length steps) most_steps then Some (before ++ steps) else None
 
--- the step of the string of this number, in a scenario that is carried or not
-abbrev pub numbered_step : SettingsValue → Bool → ℕ → List ℕ → Result Step Fault
-numbered_step p carrier number text = ok_or (option_and_then if_played (step_of_text p carrier text)) (BadStep number)
+-- the steps so far and those of the string of this number, in a scenario that is carried or not
+unfoldable pub numbered_steps : SettingsValue → Bool → ℕ → List Step → List ℕ → Result (List Step) Fault
+numbered_steps p carrier number before text =
+    ok_or (option_and_then (steps_with before) (steps_of_text p carrier text)) (BadStep number)
 
--- the steps so far and this one, or its fault
-abbrev pub with_step : List Step → Result Step Fault → Result (List Step) Fault
-with_step steps (Ok step) = Ok (steps ++ step ∷ [])
-with_step steps (Err fault) = Err fault
+-- the steps so far and those of these strings, of which the first has this number
+abbrev pub steps_from : SettingsValue → Bool → ℕ → List Step → List (List ℕ) → Result (List Step) Fault
+steps_from p carrier number before [] = Ok before
+steps_from p carrier number before (text ∷ others) =
+    numbered_steps p carrier number before text >>= (λ steps. steps_from p carrier (number + 1) steps others)
 
--- the steps of these strings, of which the first has this number
-abbrev pub steps_from : SettingsValue → Bool → ℕ → List (List ℕ) → Result (List Step) Fault
-steps_from p carrier number [] = Ok []
-steps_from p carrier number (text ∷ others) =
-    cons_result (numbered_step p carrier number text) (steps_from p carrier (number + 1) others)
-
--- the steps that a table gives, counted from 1
+-- the steps that a table gives; its strings are counted from 1
 abbrev pub steps_of_table : SettingsValue → Bool → Table → Result (List Step) Fault
-steps_of_table p carrier table = read_at Steps (strings_up_to most_steps) table >>= steps_from p carrier 1
+steps_of_table p carrier table = read_at Steps (strings_up_to most_steps) table >>= steps_from p carrier 1 []
 
 -- the scenario of a table whose keys are right
 abbrev pub script_of : Table → Result ScenarioValue Fault

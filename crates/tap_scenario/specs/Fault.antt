@@ -1,5 +1,5 @@
 -- readings one after the other, of which the first fault is the answer
-use Rattle.std.specs.Prelude.{List, ◌∷◌, Result, Ok, Err}
+use Rattle.std.specs.Prelude.{Result, Ok, Err}
 use Rattle.tap_scenario.specs.declared.fault.Fault.{Fault}
 
 -- what is read next, if there was no fault
@@ -7,9 +7,3 @@ infixl 10 ◌>>=◌
 abbrev pub ◌>>=◌ : {A B : Type 0} → Result A Fault → (A → Result B Fault) → Result B Fault
 (Ok value) >>= next = next value
 (Err fault) >>= next = Err fault
-
--- one more at the front, or the first fault
-abbrev pub cons_result : {A : Type 0} → Result A Fault → Result (List A) Fault → Result (List A) Fault
-cons_result (Err fault) _ = Err fault
-cons_result (Ok first) (Err fault) = Err fault
-cons_result (Ok first) (Ok others) = Ok (first ∷ others)

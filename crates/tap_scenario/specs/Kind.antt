@@ -1,6 +1,7 @@
 -- the first words of steps, and which steps there are
-use Rattle.std.specs.Prelude.{ℕ, ◌==◌, Bool, true, ◌&&◌, not, List, [], ◌∷◌, codes, bytes_eq, find, Option}
+use Rattle.std.specs.Prelude.{ℕ, Bool, true, not, List, [], ◌∷◌, codes, bytes_eq, find, Option}
 use Rattle.tap_name.specs.Settings.{SettingsValue}
+use Rattle.tap_salt.specs.Salt.{is_salted}
 use Rattle.tap_scenario.specs.declared.kind.NameKind.TheVariants.{Leave, Root, Table, Pointers, Abandon}
 use Rattle.tap_scenario.specs.declared.kind.PairKind.{PairKind}
 use Rattle.tap_scenario.specs.declared.kind.PairKind.TheVariants.{Join, Publish, Withdraw, Find, Walk, RootSet}
@@ -59,7 +60,7 @@ is_there p carrier (Pair Publish) = true
 is_there p carrier (Pair Withdraw) = true
 is_there p carrier (Pair Find) = true
 is_there p carrier (Pair Walk) = true
-is_there p carrier (Pair RootSet) = (p.base == 16) && (p.digits == 40)
+is_there p carrier (Pair RootSet) = is_salted p
 is_there p carrier (Place Deliver) = true
 is_there p carrier (Place Lose) = carrier
 is_there p carrier (Place Repeat) = carrier

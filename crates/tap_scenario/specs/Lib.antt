@@ -1,12 +1,15 @@
 pub mod Word
-pub mod Prefix
 pub mod Key
 pub mod Words
 pub mod Kind
 pub mod Step
 pub mod Wording
 pub mod Scenario
+pub mod Spelling
 pub mod Value
+pub mod PlainWords
+pub mod Spread
+pub mod SpellingLaws
 pub mod Fault
 pub mod ReadRefusal
 pub mod Document

@@ -1,5 +1,5 @@
 -- what a scenario is
-use Rattle.std.specs.Prelude.{◌≡◌, ℕ, ◌≤◌, nat_le, Bool, false, IsTrue, if◌then◌else◌, List, length, All}
+use Rattle.std.specs.Prelude.{ℕ, ◌≤◌, nat_le, Bool, IsTrue, if◌then◌else◌, List, length, All}
 use Rattle.tap_name.specs.Settings.{SettingsValue, AreWithinLimits}
 use Rattle.tap_name.specs.Name.{IsName}
 use Rattle.tap_name.specs.Names.{AreDistinct}

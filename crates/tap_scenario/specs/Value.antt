@@ -2,9 +2,9 @@
 use Rattle.std.specs.Prelude.{ℕ, pos, nat_le, Bool, true, false, ◌&&◌, List, [], ◌∷◌, length, Option, None, Some, option_and_then, if◌then◌else◌}
 use Rattle.toml.specs.Data.{Data, string, integer, boolean, array, Items, no_items, item}
 use Rattle.tap_name.specs.Settings.{SettingsValue}
-use Rattle.tap_name.specs.Name.{name_of_word}
 use Rattle.tap_name.specs.Names.{are_distinct}
 use Rattle.tap_scenario.specs.Scenario.{most_members}
+use Rattle.tap_scenario.specs.Spelling.{name_in}
 
 -- a whole number within these limits
 abbrev pub whole_number : ℕ → ℕ → Data → Option ℕ
@@ -42,16 +42,16 @@ abbrev pub cons_both : {A : Type 0} → Option A → Option (List A) → Option 
 cons_both (Some first) (Some others) = Some (first ∷ others)
 cons_both _ _ = None
 
--- texts that are names
+-- texts that write names
 abbrev pub names_of_texts : SettingsValue → List (List ℕ) → Option (List (List ℕ))
 names_of_texts p [] = Some []
-names_of_texts p (text ∷ others) = cons_both (name_of_word p text) (names_of_texts p others)
+names_of_texts p (text ∷ others) = cons_both (name_in p text) (names_of_texts p others)
 
 -- names of which no two are the same
 abbrev pub distinct_names : List (List ℕ) → Option (List (List ℕ))
 distinct_names names = if are_distinct names then Some names else None
 
--- texts that are distinct names, as many as a scenario may have members
+-- texts that write distinct names, as many as a scenario may have members
 abbrev pub members_of_texts : SettingsValue → List (List ℕ) → Option (List (List ℕ))
 members_of_texts p texts =
     if nat_le 1 (length texts) && nat_le (length texts) most_members then option_and_then distinct_names (names_of_texts p texts) else None

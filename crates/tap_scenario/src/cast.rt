@@ -1,4 +1,4 @@
-ghost use Rattle.std.specs.Prelude.{◌≡◌, ◌↔◌, ℕ, ◌<◌, ◌≤◌, List, [], ◌∷◌, ◌++◌, All, length, nat_eq, Some};
+ghost use Rattle.std.specs.Prelude.{◌≡◌, ◌↔◌, ℕ, ◌≤◌, List, [], ◌∷◌, ◌++◌, length, nat_eq, Some};
 ghost use Rattle.std.specs.Cmp.{partial_equiv_from_equiv};
 ghost use Rattle.std.specs.Cmp.Lexicographic.{pointwise, nat_list_eq_equiv};
 ghost use Rattle.std.specs.Option.{SomeIff};
@@ -6,7 +6,7 @@ ghost use Rattle.tap_name.specs.Word.{IsWord, is_word};
 ghost use Rattle.tap_scenario.specs.Step.{IsPrefix, word_of_bytes, prefix_of_word, text_of_prefix};
 
 use std::marker::Model;
-use tap_name::{Name, Settings, are_word_bytes, read_name};
+use tap_name::{Name, NameDigits, Settings, are_word_bytes, read_name};
 
 /// The word that a cast spreads: 1 to 32 lower-case letters and digits. Contracts see its bytes.
 ///
@@ -101,22 +101,17 @@ impl Eq for Word {
 /// Rule: docs/FORMATS.md, "The scenario".
 #[derive(Clone, Copy, Debug)]
 pub struct Prefix {
-    digits: Option<Name>,
+    digits: Name,
 }
 
 impl Model for Prefix {
     ghost use Rattle.std.specs.Prelude.{List, ℕ};
-    ghost use Rattle.tap_scenario.specs.Prefix.{IsPrefixName, prefix_digits, prefix_name, prefix_name-digits};
 
     ghost Value = { List ℕ };
 
-    ghost view = { λ p. prefix_digits p.digits };
+    ghost view = { λ p. p.digits };
 
-    ghost invariant = { λ p. IsPrefixName p.digits };
-
-    ghost inverse = { λ xs. record { digits = prefix_name xs } };
-
-    ghost inverse_ok = { λ p h i. record { digits = prefix_name-digits p.digits h i } };
+    ghost inverse = { λ xs. record { digits = xs } };
 }
 
 impl Prefix {
@@ -128,14 +123,16 @@ impl Prefix {
         ensures { SomeIff result (IsPrefix settings.now digits.now) digits.now }
     {
         if digits.is_empty() {
-            return Some(Prefix { digits: None });
+            return Some(Prefix {
+                digits: Name::of(&[]),
+            });
         }
         if digits.len() > settings.digits() as usize {
             return None;
         }
         let shorter = Settings::new(settings.base(), digits.len() as u8, settings.width())?;
         match Name::from_digits(&shorter, digits) {
-            Ok(name) => Some(Prefix { digits: Some(name) }),
+            Ok(name) => Some(Prefix { digits: name }),
             Err(_) => None,
         }
     }
@@ -145,16 +142,16 @@ impl Prefix {
         ensures { result ≡ prefix_of_word settings.now text.now }
     {
         if text == b"*".as_slice() {
-            return Some(Prefix { digits: None });
+            return Some(Prefix {
+                digits: Name::of(&[]),
+            });
         }
         if text.is_empty() || text.len() > settings.digits() as usize {
             return None;
         }
         let shorter = Settings::new(settings.base(), text.len() as u8, settings.width())?;
         let digits = read_name(&shorter, text).ok()?;
-        Some(Prefix {
-            digits: Some(digits),
-        })
+        Some(Prefix { digits })
     }
 
     /// The prefix that a text spells, one byte for each digit as in a name, and `*` for no digit. `None` exactly if
@@ -172,16 +169,23 @@ impl Prefix {
         Prefix::spelled(settings, text)
     }
 
-    /// The digits, lent.
-    pub fn as_slice(&self) -> &[u8]
-        ensures value { result.now ≡ self.now }
-        ensures len { length self.now ≤ 40 }
-        ensures digits { All (λ digit. digit < 16) self.now }
+    /// The number of digits.
+    ///
+    /// Rule: docs/FORMATS.md, "The scenario".
+    pub fn len(&self) -> usize
+        ensures value { result ≡ length self.now }
+        ensures most { result ≤ 40 }
     {
-        match &self.digits {
-            Some(digits) => digits.as_slice(),
-            None => &[],
-        }
+        self.digits.len()
+    }
+
+    /// The digits, one a byte.
+    ///
+    /// Rule: docs/FORMATS.md, "The scenario".
+    pub fn digits(&self) -> NameDigits
+        ensures { result ≡ self.now }
+    {
+        self.digits.digits()
     }
 }
 
@@ -191,7 +195,7 @@ impl PartialEq for Prefix {
     ghost laws = { partial_equiv_from_equiv nat_list_eq_equiv };
 
     fn eq(&self, other: &Prefix) -> bool {
-        self.as_slice() == other.as_slice()
+        self.digits == other.digits
     }
 }
 

@@ -1,18 +1,23 @@
-ghost use Rattle.std.specs.Prelude.{◌≡◌, ◌+◌, ◌<◌, ◌≤◌, length, IsTrue, IfOk, OnOk, MatchResult, Ok, Err};
+ghost use Rattle.std.specs.Prelude.{◌≡◌, ◌≤◌, length, IsTrue, IfOk, OnOk, MatchResult, Ok, Err};
+ghost use Rattle.std.specs.List.{list_all};
 ghost use Rattle.std.specs.Option.{ok_or};
+ghost use Rattle.toml.specs.Parse.{parse_document};
 ghost use Rattle.toml.specs.View.{table_view, items_view};
-ghost use Rattle.tap_scenario.specs.Document.{read_at, settings_of_table, frames_of_table, carrier_of_table, members_of_table, numbered_step, with_step, steps_from, steps_of_table, script_of, scenario_of_table, scenario_of};
+ghost use Rattle.tap_scenario.specs.Document.{read_at, settings_of_table, frames_of_table, carrier_of_table, members_of_table, steps_with, numbered_steps, steps_of_table, script_of, scenario_of_table, scenario_of};
 ghost use Rattle.tap_scenario.specs.Key.{missing_key, is_known, has_known_keys, wrong_key};
 ghost use Rattle.tap_scenario.specs.Scenario.{CanBePlayed, IsScript};
 ghost use Rattle.tap_scenario.specs.ReadRefusal.{AnswersUnlessMemory, TellsFault};
+ghost use Rattle.tap_scenario.specs.Step.{is_played};
 ghost use Rattle.tap_scenario.specs.Value.{whole_number, array_of_strings, strings_up_to, are_strings, names_of_texts, texts_of};
 
 use crate::fault::{Fault, Key, ReadRefusal};
 use crate::scenario::Scenario;
+use crate::spelled::spelled_steps;
+use crate::spelling::name_in;
 use crate::step::{Step, read_step};
 use crate::values::{are_distinct, carrier_of, strings, value_at, whole_number};
 use std::alloc::Global;
-use tap_name::{List, Name, Settings, read_name};
+use tap_name::{List, Name, Settings};
 use toml::{Table, Value};
 
 // The most members that a scenario has.
@@ -155,7 +160,7 @@ fn read_carrier(table: &Table) -> Result<bool, Fault>
     }
 }
 
-// The names that the strings among these are, if each of them is one.
+// The names that the strings among these write, if each of them writes one.
 fn read_names(
     alloc: Global,
     settings: &Settings,
@@ -167,9 +172,9 @@ fn read_names(
     let mut names = Vec::with_capacity(alloc, strings.len())?;
     for value in strings {
         if let Some(text) = value.as_str() {
-            match read_name(settings, text.as_bytes()) {
-                Ok(name) => names.push(name)?,
-                Err(_) => return Err(ReadRefusal::Fault(Fault::BadValue(Key::Members))),
+            match name_in(settings, text.as_bytes()) {
+                Some(name) => names.push(name)?,
+                None => return Err(ReadRefusal::Fault(Fault::BadValue(Key::Members))),
             }
         }
     }
@@ -195,24 +200,47 @@ fn read_members(
     Ok(names)
 }
 
-// Adds the step of the next string, if it is one that a run takes, to the steps of the strings before it.
-fn add_step(
+// Whether a run takes each of these steps.
+fn are_played(steps: &[Step]) -> bool
+    ensures { result ≡ list_all is_played steps.now }
+{
+    steps.iter().all(|step| step.is_played())
+}
+
+// Adds the steps of the string of this number, if a run takes each of them and a scenario may have so many.
+fn add_steps(number: u32, steps: &mut Vec<Step>, more: &[Step]) -> Result<(), ReadRefusal>
+    requires { length steps.now.items ≤ MOST_STEPS }
+    ensures value { let read = ok_or (steps_with steps.old.items more.now) (Fault.BadStep number)
+        in MatchResult result (λ _. read ≡ Ok steps.new.items) (TellsFault read) }
+    ensures few { OnOk result (length steps.new.items ≤ MOST_STEPS) }
+{
+    if !are_played(more) || steps.len() + more.len() > MOST_STEPS {
+        return Err(ReadRefusal::Fault(Fault::BadStep(number)));
+    }
+    steps.extend_from_slice(more)?;
+    Ok(())
+}
+
+// Reads the string of this number, and adds the steps for which it stands to those of the strings before it.
+#[tactic(auto, unfolding(crate::specs::Document::numbered_steps))]
+fn read_string(
     settings: &Settings,
     carrier: bool,
+    number: u32,
     steps: &mut Vec<Step>,
     text: &[u8],
 ) -> Result<(), ReadRefusal>
-    requires { length steps.now.items < MOST_STEPS }
-    ensures value { let read = numbered_step settings.now carrier (length steps.old.items + 1) text.now
-        in MatchResult result (λ _. with_step steps.old.items read ≡ Ok steps.new.items) (TellsFault read) }
-    ensures len { OnOk result (length steps.new.items ≡ length steps.old.items + 1) }
+    requires { length steps.now.items ≤ MOST_STEPS }
+    ensures value { let read = numbered_steps settings.now carrier number steps.old.items text.now
+        in MatchResult result (λ _. read ≡ Ok steps.new.items) (TellsFault read) }
+    ensures few { OnOk result (length steps.new.items ≤ MOST_STEPS) }
 {
-    match read_step(settings, carrier, text) {
-        Some(step) if step.is_played() => {
-            steps.push(step)?;
-            Ok(())
-        }
-        _ => Err(ReadRefusal::Fault(Fault::BadStep(steps.len() as u32 + 1))),
+    if let Some(step) = read_step(settings, carrier, text) {
+        return add_steps(number, steps, &[step]);
+    }
+    match spelled_steps(settings, carrier, text) {
+        Some(spelled) => add_steps(number, steps, spelled.as_slice()),
+        None => Err(ReadRefusal::Fault(Fault::BadStep(number))),
     }
 }
 
@@ -227,9 +255,15 @@ fn read_steps(
 {
     let strings = few_strings_at(table, Key::Steps, MOST_STEPS)?;
     let mut steps = Vec::with_capacity(alloc, strings.len())?;
-    for value in strings {
+    for (at, value) in strings.iter().enumerate() {
         if let Some(text) = value.as_str() {
-            add_step(settings, carrier, &mut steps, text.as_bytes())?;
+            read_string(
+                settings,
+                carrier,
+                at as u32 + 1,
+                &mut steps,
+                text.as_bytes(),
+            )?;
         }
     }
     Ok(List::from_vec(steps))
@@ -252,11 +286,26 @@ fn read_table(alloc: Global, table: &Table) -> Result<Scenario, ReadRefusal>
     Ok(Scenario::from_lists(&settings, frames, carrier, members, steps))
 }
 
+// The table that a text is.
+fn read_toml(alloc: Global, text: &str) -> Result<Table, ReadRefusal>
+    ensures { let read = ok_or (parse_document text.now) Fault.NotToml
+        in MatchResult result (λ table. read ≡ Ok (table_view table)) (TellsFault read) }
+{
+    toml::table_from_str(alloc, text).map_err(|error| {
+        if error.is_memory() {
+            ReadRefusal::NoMemory
+        } else {
+            ReadRefusal::Fault(Fault::NotToml)
+        }
+    })
+}
+
 /// Reads a scenario's text, or says what is wrong with it first.
 ///
 /// The text is TOML with the keys `base` (2 to 16), `digits` (1 to 40), `width` (1 to 4), `members` (an array of 1 to
-/// 64 strings, distinct names) and `steps` (an array of at most 10,000 strings, each the text of a step). A key
-/// `frames` may stand beside them: 1 to 500,000, and 200,000 if it is absent; if `digits` is above 8, 1 to
+/// 64 strings, distinct names) and `steps` (an array of at most 10,000 strings, each of which stands for one step or for
+/// four; in all there are at most 10,000). If names have 40 digits in base 16, they may be spelled, and objects be salts. A
+/// key `frames` may stand beside them: 1 to 500,000, and 200,000 if it is absent; if `digits` is above 8, 1 to
 /// 100,000, and 100,000 if it is absent. So may a key `carrier`, true or false: whether the run is carried, and false
 /// if it is absent. Of several faults the answer is the first one in the order of [`Fault`]'s variants.
 ///
@@ -270,14 +319,6 @@ pub fn read(alloc: Global, bytes: &[u8]) -> Result<Scenario, ReadRefusal>
         Ok(text) => text,
         Err(_) => return Err(ReadRefusal::Fault(Fault::NotUtf8)),
     };
-    match toml::table_from_str(alloc, text) {
-        Ok(table) => read_table(alloc, &table),
-        Err(error) => {
-            if error.is_memory() {
-                Err(ReadRefusal::NoMemory)
-            } else {
-                Err(ReadRefusal::Fault(Fault::NotToml))
-            }
-        }
-    }
+    let table = read_toml(alloc, text)?;
+    read_table(alloc, &table)
 }

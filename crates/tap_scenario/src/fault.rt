@@ -70,7 +70,7 @@ pub enum Fault {
     BadKey(Key),
     /// The first key whose value isn't as it has to be. Of the steps this asks for an array of at most 10,000 strings.
     BadValue(Key),
-    /// The first string, counted from 1, that is no step.
+    /// The first string, counted from 1, that is no step, or with which there are more than 10,000 steps.
     BadStep(u32),
 }
 

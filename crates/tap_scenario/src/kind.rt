@@ -1,5 +1,6 @@
 ghost use Rattle.std.specs.Prelude.{◌≡◌, [], ◌∷◌, ◌++◌};
 ghost use Rattle.tap_scenario.specs.Kind.{text_of_kind, kind_of_word, is_there, link_of_pair};
+ghost use Rattle.tap_scenario.specs.Spread.{spread_of_word, pair_of_spread};
 ghost use Rattle.tap_scenario.specs.Step.{step_of_name, step_of_pair, step_of_place};
 
 use crate::step::Step;
@@ -32,6 +33,14 @@ pub(crate) enum PlaceKind {
     Deliver,
     Lose,
     Repeat,
+}
+
+// The kinds of text that stand for four steps, one for each salt of an object.
+#[derive(Clone, Copy)]
+pub(crate) enum SpreadKind {
+    Scatter,
+    Gather,
+    FindAll,
 }
 
 // The kinds of step that the first word tells apart.
@@ -136,6 +145,31 @@ impl PlaceKind {
             PlaceKind::Deliver => Step::Deliver { place },
             PlaceKind::Lose => Step::Lose { place },
             PlaceKind::Repeat => Step::Repeat { place },
+        }
+    }
+}
+
+impl SpreadKind {
+    // The kind that begins with this word.
+    pub(crate) fn of(word: &[u8]) -> Option<SpreadKind>
+        ensures { result ≡ spread_of_word word.now }
+    {
+        match word {
+            b"scatter" => Some(SpreadKind::Scatter),
+            b"gather" => Some(SpreadKind::Gather),
+            b"findall" => Some(SpreadKind::FindAll),
+            _ => None,
+        }
+    }
+
+    // The kind of its steps.
+    pub(crate) fn pair(self) -> PairKind
+        ensures { result ≡ pair_of_spread self }
+    {
+        match self {
+            SpreadKind::Scatter => PairKind::Publish,
+            SpreadKind::Gather => PairKind::Withdraw,
+            SpreadKind::FindAll => PairKind::Find,
         }
     }
 }

@@ -5,7 +5,12 @@ mod cast;
 mod document;
 mod fault;
 mod kind;
+mod law;
 mod scenario;
+mod spelled;
+mod spelling;
+#[cfg(test)]
+mod spelling_tests;
 mod step;
 #[cfg(test)]
 mod tests;
@@ -16,7 +21,9 @@ mod words;
 pub use cast::{Prefix, Word};
 pub use document::read;
 pub use fault::{Fault, Key, ReadRefusal};
+pub use law::spellings_law;
 pub use scenario::Scenario;
 pub use step::{Step, read_step};
 pub use tap_name::NoMemory;
 pub use wording::{StepWords, WordsAfter};
+pub use words::{Words, read_number};

@@ -281,7 +281,7 @@ fn step_of_words(settings: &Settings, carrier: bool, mut words: Words<'_>) -> Op
 }
 
 /// The step that a text is, if it is one: its words have one space between them and nothing before or after them, its
-/// names are names of the settings, and its numbers are decimal, with no sign and no leading zero. The steps `tick`,
+/// names are names of the settings, written digit by digit, and its numbers are decimal, with no sign and no leading zero. The steps `tick`,
 /// `lose` and `repeat` are there in a carried scenario only, `garble` and `cut` in any other only, and `rootset` only
 /// if names have 40 digits in base 16.
 ///

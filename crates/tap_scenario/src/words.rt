@@ -1,14 +1,17 @@
-ghost use Rattle.std.specs.Prelude.{◌≡◌, ◌==◌, ◌+◌, ◌≤◌, [], ◌∷◌, position, MatchOption, IfSome, option_copied};
+ghost use Rattle.std.specs.Prelude.{◌≡◌, ◌==◌, ◌+◌, ◌≤◌, [], ◌∷◌, position, MatchOption, IfSome, option_copied, option_map};
 ghost use Rattle.tap_scenario.specs.Step.{number_below, one_number, two_numbers, only};
-ghost use Rattle.tap_scenario.specs.Words.{words, words_left};
+ghost use Rattle.tap_scenario.specs.Words.{words, words_left, words_around};
 
 use crate::step::Step;
 use itoa::Buffer;
 use std::marker::Model;
 
-// The words of a text that are left, one space standing between each two. Contracts see them as a list.
+/// The words of a text that are left: what stands before, between and after its spaces. One space stands between each two
+/// words, so two spaces have an empty word between them, and an empty text is one empty word. Contracts see the list of the words.
+///
+/// Rule: docs/FORMATS.md, "The scenario".
 #[derive(Drop)]
-pub(crate) struct Words<'a> {
+pub struct Words<'a> {
     rest: Option<&'a [u8]>,
 }
 
@@ -47,8 +50,11 @@ fn number_of_text(text: &str, most: u64) -> Option<u64>
     }
 }
 
-// The number that a word writes, if it is at most so much.
-pub(crate) fn read_number(word: &[u8], most: u64) -> Option<u64>
+/// The number that a word writes in decimal, if it is at most `most`. `None` exactly if the word isn't how such a number prints: a
+/// sign, a leading zero, anything but digits, a greater number, or nothing.
+///
+/// Rule: docs/FORMATS.md, "The scenario".
+pub fn read_number(word: &[u8], most: u64) -> Option<u64>
     ensures value { result ≡ number_below (most + 1) word.now }
     ensures to { IfSome result (λ number. number ≤ most) }
 {
@@ -59,22 +65,22 @@ pub(crate) fn read_number(word: &[u8], most: u64) -> Option<u64>
 }
 
 impl<'a> Words<'a> {
-    // All words of a text.
-    pub(crate) fn of(text: &'a [u8]) -> Words<'a>
+    /// All words of a text.
+    pub fn of(text: &'a [u8]) -> Words<'a>
         ensures { result ≡ words text.now }
     {
         Words { rest: Some(text) }
     }
 
-    // The text whose words are left, if it isn't at its end.
-    pub(crate) fn text(self) -> Option<&'a [u8]>
+    /// The text whose words are left, which no word is taken from yet. `None` if all words were taken.
+    pub fn text(self) -> Option<&'a [u8]>
         ensures { words_left (option_copied result) ≡ self.entry }
     {
         self.rest
     }
 
-    // Takes the next word.
-    pub(crate) fn next(&mut self) -> Option<&'a [u8]>
+    /// Takes the next word. `None` if none is left.
+    pub fn next(&mut self) -> Option<&'a [u8]>
         ensures { MatchOption result ((self.old ≡ []) × (self.new ≡ [])) (λ word. self.old ≡ word.now ∷ self.new) }
     {
         let text = self.rest?;
@@ -109,6 +115,22 @@ impl<'a> Words<'a> {
     {
         let first = read_number(self.next()?, most)?;
         let second = self.one_number(more)?;
+        Some((first, second))
+    }
+
+    // The words before and after this one, if they are all.
+    pub(crate) fn around(mut self, link: &str) -> Option<(&'a [u8], &'a [u8])>
+        ensures { option_map (λ pair. (pair.0.now, pair.1.now)) result ≡ words_around link.now self.entry }
+    {
+        let first = self.next()?;
+        let between = self.next()?;
+        let second = self.next()?;
+        if self.next().is_some() {
+            return None;
+        }
+        if between != link.as_bytes() {
+            return None;
+        }
         Some((first, second))
     }
 

@@ -1,5 +1,5 @@
 use Rattle.std.proofs.Common.{◌≡◌, ◌++◌, ◌-◌, ◌*◌, take, replicate}
-use Rattle.tap_salt.specs.Salt.{halves}
+use Rattle.tap_name.specs.Packed.{halves}
 use Rattle.tap_salt.proofs.salts.digits_of.Given as goal
 
 abbrev pub invariant-loop-at : goal.invariant-loop-at

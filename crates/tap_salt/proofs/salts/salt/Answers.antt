@@ -25,5 +25,5 @@ returns-clause-value c =
     let printed = text_of_name-all digits text c.loop-at.at end c.loop-at.invariant.printed in
     let bytes : take (length digits + 1) (set text (length digits) c.args.number) ≡ text_of_name c.args.object.now ++ c.args.number ∷ [] =
     take_more_set text (length digits) c.args.number few
-    ∙ ap (λ front. front ++ c.args.number ∷ []) (printed ∙ ap text_of_name c.as_slice-digits.ensures.value) in
+    ∙ ap (λ front. front ++ c.args.number ∷ []) (printed ∙ ap text_of_name (c.as_slice-digits.ensures.value ∙ c.digits-name.ensures)) in
     c.name_of.ensures.value ∙ ap (λ given. if_salted c.args.settings.now (name_of_bytes given)) bytes
