@@ -30,6 +30,7 @@ use Rattle.tap_lawful.proofs.CarriedGrowth.{carried_steps}
 use Rattle.tap_lawful.proofs.CarriedReduction.{carried_run, script_steps}
 use Rattle.tap_lawful.proofs.CarriedTurns.{turn_of_group}
 use Rattle.tap_lawful.proofs.CarriedWhole.{is_turn}
+use Rattle.tap_lawful.proofs.UncarriedLogs.{plain_played, spent_reduces}
 use Rattle.tap_safe_runs.specs.Safe.{IsRun}
 use Rattle.tap_bounds_runs.specs.Enough.{AsksForJoinsAlone, HasEnoughFrames, RunsAreNeverSpent, RunsEndFinished}
 use Rattle.tap_bounds_runs.proofs.Enough.{never_spent, step_few, taken_few}
@@ -89,7 +90,7 @@ module _ (s : ScenarioValue) (script : IsCarriedScript s) (alone : AsksForJoinsA
   few_next group comes =
       let most = sent_count (played ++ group) in
       let next = turn_of_group s played carried most group (script_steps s script) comes (omega arith) in
-      let turn = is_turn (record { settings = s.settings; frames = most; members = s.members }) played next.turn
+      let turn = is_turn true (record { settings = s.settings; frames = most; members = s.members }) played next.turn
       (log_kept true played (runs_reduce.turns true (beginning_in s) played carried)) next.follows in
       let reduces : reduced (played ++ group) ≡ less ++ reduced_group next.turn =
       reduced-append played group ∙ ap (λ g. less ++ reduced g) (sym next.is) ∙ ap (λ l. less ++ l) (turn_reduced true next.turn turn) in
@@ -102,7 +103,9 @@ never_by : (c : Bool) (s : ScenarioValue) (played log : List Record) → s.carri
 never_by true s played log is valid alone enough is_played spent =
     let few = few_next s (record { valid = valid; carried = is }) alone enough played is_played spent.group spent.next in
     let over = spent.over in absurd (omega (arith, few, over))
-never_by false s played log is valid alone enough is_played spent = never_spent s played log valid alone enough is_played spent
+never_by false s played log is valid alone enough is_played spent =
+    never_spent s (reduced played) (reduced log) valid alone enough (plain_played s valid played is_played)
+    (spent_reduces s valid played log spent)
 
 pub runs_are_never_spent : RunsAreNeverSpent
 runs_are_never_spent s played log valid alone enough is_played spent = never_by s.carrier s played log refl valid alone enough is_played spent

@@ -4,12 +4,12 @@ use Rattle.std.specs.Prelude.{◌&&◌, nat_eq, count_by, if◌then◌else◌}
 use Rattle.std.specs.Cmp.Lexicographic.{pointwise}
 use Rattle.std.specs.List.{sum_by}
 use Rattle.std.proofs.Math.Nat.{mul-le-mul_left}
-use Rattle.std.proofs.lemmas.Bool.{and_from, and_parts}
+use Rattle.std.proofs.lemmas.Bool.{and_from, and_parts, cases_Bool}
 use Rattle.tap_name.specs.Names.{Among, has_name}
 use Rattle.tap_name.specs.Settings.{SettingsValue}
 use Rattle.tap_name.proofs.Membership.{among-append, has_name-Decides}
 use Rattle.tap_wire.specs.declared.frame.Body.{Body}
-use Rattle.tap_wire.specs.declared.frame.Body.TheVariants.{Done, Heard, Hello, Seek}
+use Rattle.tap_wire.specs.declared.frame.Body.TheVariants.{Done, Heard, Seek}
 use Rattle.tap_wire.specs.declared.frame.Frame.{Frame}
 use Rattle.tap_rule.specs.Node.{NodeState}
 use Rattle.tap_rule.specs.Sent.{IsAmong}
@@ -84,10 +84,12 @@ done_of f Done at is = rw at refl
 done_of f _ at is = absurd (cc)
 
 -- a Hello is one of a core node or of a joining one
-hello_from : (body : Body) (x b : List ℕ) (f : Frame) → f.body ≡ body → is_hello body ≡ true → pointwise nat_eq f.to b ≡ true
+hello_from : {body : Body} → Said body → (x b : List ℕ) (f : Frame) → f.body ≡ body → is_hello body ≡ true → pointwise nat_eq f.to b ≡ true
     → pointwise nat_eq f.from x ≡ true → (is_core_hello x b f ≡ true) ⊎ (is_joining_hello x b f ≡ true)
-hello_from (Hello session true links) x b f at is to from = inl (rw (at, from, to) refl)
-hello_from (Hello session false links) x b f at is to from = inr (rw (at, from, to) refl)
+hello_from (IsHello hello) x b f at is to from = elim (cases_Bool hello.is_core) [
+  | inl core ↦ inl (rw (at, core, from, to) refl)
+  | inr joins ↦ inr (rw (at, joins, from, to) refl)
+]
 hello_from _ x b f at is to from = absurd (cc)
 
 module _ (p : SettingsValue) (members joiners : List (List ℕ)) (s : System) (r : Traffic) (all : AllAreFew p members joiners s r) where
@@ -210,7 +212,7 @@ module _ (p : SettingsValue) (members joiners : List (List ℕ)) (s : System) (r
       let either = count-either (λ f. is_hello_to b f && pointwise nat_eq f.from x) (is_core_hello x b) (is_joining_hello x b) (λ f is.
       let parts = and_parts (is_hello_to b f) (pointwise nat_eq f.from x) is in
       let inner = and_parts (is_hello f.body) (pointwise nat_eq f.to b) parts.0 in
-      hello_from f.body x b f refl inner.0 inner.1 parts.1) r.sent in
+      hello_from (said_of f.body) x b f refl inner.0 inner.1 parts.1) r.sent in
       omega (arith, core, joining, either) in
       let each = sum-most (λ x. count_by (λ f. is_hello_to b f && pointwise nat_eq f.from x) r.sent) 2 from names in
       omega (arith, over, each)

@@ -190,7 +190,7 @@ module _ (laws : Laws) (s : ScenarioValue) (w : WorldValue) (c : CarrierValue) (
   module _ (accepted : first_refusal log step ≡ None) (v : WorldValue)
       (marked : RecordsAreAdded w (StepRecord index step ∷ []) w.refused v) (begins : v.beginning ≡ w.beginning) where
     -- nothing more is added
-    pub alone_adds : choice_group log index step ≡ StepRecord index step ∷ [] → HasAdded s w v begun_carrier
+    pub alone_adds : choice_group s.settings log index step ≡ StepRecord index step ∷ [] → HasAdded s w v begun_carrier
     alone_adds alone =
         has_added laws s w c of (StepRecord index step ∷ []) v begun_carrier
         (choice_next s log index step next.none next.step_is next.index_is chooses accepted ∙ ap Some alone) (few [] refl) marked.whole
@@ -199,7 +199,7 @@ module _ (laws : Laws) (s : ScenarioValue) (w : WorldValue) (c : CarrierValue) (
         (step_alone_plain index step) keeps_begun)
 
     -- one remark is added, or none
-    module _ (item : Record) (is : choice_group log index step ≡ StepRecord index step ∷ item ∷ []) (unsent : sent_count (item ∷ []) ≡ 0) where
+    module _ (item : Record) (is : choice_group s.settings log index step ≡ StepRecord index step ∷ item ∷ []) (unsent : sent_count (item ∷ []) ≡ 0) where
       abbrev group : List Record
       group = StepRecord index step ∷ item ∷ []
 
@@ -247,7 +247,7 @@ module _ (laws : Laws) (s : ScenarioValue) (w : WorldValue) (c : CarrierValue) (
       let log = whole_log w in
       let begun = begun_carrier laws s w c of index (Lose place) next chooses in
       one_adds laws s w c of index (Lose place) next chooses accepted v marked begins (Lost line.number)
-      (lose_chosen log index place line at) (loss_unsent line.number) (HasDropped line.number begun d) given u d
+      (lose_chosen s.settings log index place line at) (loss_unsent line.number) (HasDropped line.number begun d) given u d
       (lost_plain index line.number (Lose place))
       (λ comes gone.
       keeps_lost s.settings log (log ++ StepRecord index (Lose place) ∷ []) line.number begun d
@@ -273,7 +273,7 @@ module _ (laws : Laws) (s : ScenarioValue) (w : WorldValue) (c : CarrierValue) (
       let record_is : put_record begun packet ≡ packet_record copy =
       ap (λ n. packet_record (record { number = n; frame = line.frame; ack = line.ack })) of.keeps.boxes.net.made in
       one_adds laws s w c of index step next chooses accepted v marked begins (packet_record copy)
-      (repeat_chosen log index place line at) (packet_unsent copy) (HasPut packet begun d) given u d (made_plain index step copy)
+      (repeat_chosen s.settings log index place line at) (packet_unsent copy) (HasPut packet begun d) given u d (made_plain index step copy)
       (λ comes put.
       keeps_put s.settings log (log ++ StepRecord index step ∷ []) copy begun d (kept_begun laws s w c of index step next chooses)
       (made_of (log ++ StepRecord index step ∷ []) copy comes)

@@ -1,9 +1,11 @@
 -- What a choice adds, by the answers of the calls.
 use Rattle.std.proofs.Common.{◌≡◌, ◌≢◌, ℕ, ◌<◌, false, true, List, [], ◌∷◌, ◌++◌, length, None, Some, Result, Ok, Err, refl, ap, sym, subst, ◌∙◌, arith}
-use Rattle.std.specs.Prelude.{if◌then◌else◌, slice_get}
+use Rattle.std.specs.Prelude.{IsTrue, if◌then◌else◌, slice_get}
+use Rattle.tap_name.specs.Settings.{SettingsValue}
 use Rattle.tap_scenario.specs.Scenario.{ScenarioValue}
+use Rattle.tap_scenario.specs.Step.{is_played}
 use Rattle.tap_scenario.specs.declared.step.Step.{Step}
-use Rattle.tap_scenario.specs.declared.step.Step.TheVariants.{Lose, Repeat}
+use Rattle.tap_scenario.specs.declared.step.Step.TheVariants.{Lose, Repeat, RootSet}
 use Rattle.tap_log.specs.declared.record.Record.{Record}
 use Rattle.tap_log.specs.declared.record.Record.TheVariants.{Lost, Refused as RefusedRecord, Step as StepRecord}
 use Rattle.tap_log.specs.declared.record.Refusal.{Refusal}
@@ -74,7 +76,7 @@ module _ (laws : Laws) (s : ScenarioValue) (w : WorldValue) (c : CarrierValue) (
 
   -- nothing more is added
   pub plain_choice : (d : CarrierValue) → d ≡ record c { resending = resends step } → first_refusal (whole_log w) step ≡ None
-      → choice_group (whole_log w) index step ≡ StepRecord index step ∷ [] → HasAdded s w v d
+      → choice_group s.settings (whole_log w) index step ≡ StepRecord index step ∷ [] → HasAdded s w v d
   plain_choice d begun accepted alone =
       subst (HasAdded s w v) (sym begun) (alone_adds laws s w c of index step next chooses accepted v marked begins alone)
 
@@ -160,10 +162,11 @@ module _ (laws : Laws) (s : ScenarioValue) (w : WorldValue) (c : CarrierValue) (
         (subst (λ x. WorldAnswersAs (mark_outcome w index x) w (Ok tt) v) is answers)
         (subst (λ x. d ≡ record c { resending = resends x }) is begun) made
 
--- a choice that neither loses nor repeats a packet
-pub alone_group : (log : List Record) (index : ℕ) (step : Step) → ((place : ℕ) → step ≢ Lose place) → ((place : ℕ) → step ≢ Repeat place)
-    → choice_group log index step ≡ StepRecord index step ∷ []
-unfolding choice_group
-alone_group log index (Lose place) loses repeats = absurd (loses place refl)
-alone_group log index (Repeat place) loses repeats = absurd (repeats place refl)
-alone_group log index step loses repeats = refl
+-- a choice that neither loses nor repeats a packet, and asks for no roots
+pub alone_group : (p : SettingsValue) (log : List Record) (index : ℕ) (step : Step) → IsTrue (is_played step) → ((place : ℕ) → step ≢ Lose place)
+    → ((place : ℕ) → step ≢ Repeat place) → choice_group p log index step ≡ StepRecord index step ∷ []
+unfolding choice_group is_played
+alone_group p log index (Lose place) played loses repeats = absurd (loses place refl)
+alone_group p log index (Repeat place) played loses repeats = absurd (repeats place refl)
+alone_group p log index (RootSet object asker) played loses repeats = absurd (cc)
+alone_group p log index step played loses repeats = refl

@@ -2,6 +2,7 @@
 use Rattle.std.proofs.Common.{◌≡◌, ℕ, ◌+◌, Bool, true, false, List, [], ◌∷◌, Option, None, Some, refl, ap, sym, ◌∙◌}
 use Rattle.std.specs.Prelude.{slice_get}
 use Rattle.std.specs.Option.{option_map}
+use Rattle.tap_name.specs.Settings.{SettingsValue}
 use Rattle.tap_scenario.specs.Scenario.{ScenarioValue}
 use Rattle.tap_scenario.specs.declared.step.Step.{Step}
 use Rattle.tap_scenario.specs.declared.step.Step.TheVariants.{Lose, Repeat}
@@ -61,17 +62,17 @@ module _ (s : ScenarioValue) (log : List Record) where
 
     -- of a choice
     pub choice_next : is_choice step ≡ true → first_refusal log step ≡ None
-        → carried_next_group s log ≡ Some (choice_group log index step)
+        → carried_next_group s log ≡ Some (choice_group s.settings log index step)
     choice_next chooses accepted = accepted_next true chooses accepted
 
 -- ---- choices
 
-pub lose_chosen : (log : List Record) (index place : ℕ) (line : PacketLine) → slice_get (lines_under_way log) place ≡ Some line
-    → choice_group log index (Lose place) ≡ lose_group index place line
+pub lose_chosen : (p : SettingsValue) (log : List Record) (index place : ℕ) (line : PacketLine) → slice_get (lines_under_way log) place ≡ Some line
+    → choice_group p log index (Lose place) ≡ lose_group index place line
 unfolding choice_group
-lose_chosen log index place line there = ap (losing_group index place) there
+lose_chosen p log index place line there = ap (losing_group index place) there
 
-pub repeat_chosen : (log : List Record) (index place : ℕ) (line : PacketLine) → slice_get (lines_under_way log) place ≡ Some line
-    → choice_group log index (Repeat place) ≡ repeat_group log index place line
+pub repeat_chosen : (p : SettingsValue) (log : List Record) (index place : ℕ) (line : PacketLine) → slice_get (lines_under_way log) place ≡ Some line
+    → choice_group p log index (Repeat place) ≡ repeat_group log index place line
 unfolding choice_group
-repeat_chosen log index place line there = ap (repeating_group log index place) there
+repeat_chosen p log index place line there = ap (repeating_group log index place) there

@@ -59,10 +59,11 @@ impl CarriedWorld {
             scenario.frames(),
             scenario.members(),
         )?;
-        let Ok(carrier) = Carrier::new(alloc, &mut world) else {
-            return Err(NoMemory);
-        };
-        Ok(CarriedWorld { world, carrier })
+        match Carrier::new(alloc, &mut world) {
+            Ok(carrier) => Ok(CarriedWorld { world, carrier }),
+            Err(Stop::NoMemory) => Err(NoMemory),
+            Err(Stop::Refused(_) | Stop::Spent | Stop::Ended) => unreachable!(),
+        }
     }
 
     /// How many packets are under way.

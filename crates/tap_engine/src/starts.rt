@@ -123,7 +123,7 @@ impl Engine {
             } => Ok(Some(Record::CastFrom {
                 cast: self.next_cast(),
                 word: Bytes::copy_of(self.alloc, word.as_slice())?,
-                level: prefix.as_slice().len() as u8,
+                level: prefix.len() as u8,
                 name: *asker,
             })),
             _ => Ok(None),
@@ -219,7 +219,7 @@ impl Engine {
             name: *asker,
             start: Start::Cast {
                 cast: self.next_cast(),
-                level: prefix.as_slice().len() as u8,
+                level: prefix.len() as u8,
                 word: word.as_slice(),
             },
         }

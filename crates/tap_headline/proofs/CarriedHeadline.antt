@@ -33,6 +33,7 @@ use Rattle.tap_headline.proofs.CarriedMoments.{HasBegun, IsEarlierOrLast, IsSoFa
 use Rattle.tap_headline.proofs.CarriedTaken.{all_arrived, all_taken, cut_all, each_once, finished_all, front_keeps, played_keeps}
 use Rattle.tap_headline.proofs.Headline.{ended_logs_have_headline}
 use Rattle.tap_headline.proofs.Openings.{HasOpening, IsOpening, opening_begins, opening_ends, opening_of}
+use Rattle.tap_headline.proofs.RootSetLogs.{carried_right}
 
 -- what is so of the records of a carried run up to a moment
 record HasAll (s : ScenarioValue) (front : List Record) : Type 0 where
@@ -207,6 +208,7 @@ carried_logs_have_headline s log script of =
       arrived = all_arrived s log script of;
       taken_once = each_once s log script of;
       rest_all_taken = λ m is. (all m is).taken;
+      root_sets = carried_right s script log of;
     }
 
 pub reduced_logs_are_runs : ReducedLogsAreRuns

@@ -1,14 +1,14 @@
 -- The log of a carried run can be printed, and has few records.
 use Rattle.std.proofs.Common.{◌≡◌, inl, inr, ℕ, ◌+◌, ◌*◌, ◌≤◌, true, List, [], ◌∷◌, ◌++◌, length, take, All, refl, ap, sym, subst, ◌∙◌, arith, append_assoc, append-nil, length-append}
-use Rattle.std.proofs.lemmas.Bool.{cases_lt, false≢true}
+use Rattle.std.proofs.lemmas.Bool.{cases_lt}
 use Rattle.std.proofs.lemmas.List.{length-take-le}
 use Rattle.std.proofs.lemmas.List.Elements.{All-append, All-cons, All-nil, All-take, All-weaker}
 use Rattle.tap_name.specs.Settings.{SettingsValue}
 use Rattle.tap_scenario.specs.Scenario.{ScenarioValue}
 use Rattle.tap_log.specs.declared.record.Record.{Record}
-use Rattle.tap_log.specs.declared.record.Record.TheVariants.{Arrived, Carrier, Finished, Lost, Packet, RootsOf, Spent, Step as StepRecord, Taken, Ticked}
+use Rattle.tap_log.specs.declared.record.Record.TheVariants.{Arrived, Carrier, Finished, Spent, Step as StepRecord, Taken, Ticked}
 use Rattle.tap_log.specs.Counts.{packet_count, sent_count}
-use Rattle.tap_log.specs.Reduced.{is_added, reduced}
+use Rattle.tap_log.specs.Reduced.{reduced}
 use Rattle.tap_log.proofs.MoreRecords.{packet_count-append}
 use Rattle.tap_history.specs.Groups.{groups_of}
 use Rattle.tap_runs.specs.Beginning.{Beginning}
@@ -32,7 +32,7 @@ use Rattle.tap_headline.proofs.CarriedEnds.{kept, reduced_run}
 use Rattle.tap_headline.proofs.Groups.{group_told}
 use Rattle.tap_headline.proofs.Openings.{opening_of, opening_prints}
 use Rattle.tap_headline.proofs.Printable.{AreLater, frames_few, later_with, one_end, two_end}
-use Rattle.tap_headline.proofs.PrintedRecords.{AreTold, CanPrint}
+use Rattle.tap_headline.proofs.PrintedRecords.{AreTold, CanPrint, added_prints}
 
 -- ---- records one after another
 
@@ -40,16 +40,6 @@ use Rattle.tap_headline.proofs.PrintedRecords.{AreTold, CanPrint}
 record AreCarriedTold (p : SettingsValue) (most : ℕ) (items : List Record) : Type 0 where
   print : All (CanPrint p) items
   few : length items ≤ most + (sent_count items + packet_count items)
-
-added_prints : (p : SettingsValue) (item : Record) → is_added item ≡ true → CanPrint p item
-unfolding is_added
-added_prints p Carrier is = (tt, λ h. cc)
-added_prints p (Packet number frame ack) is = (tt, λ h. cc)
-added_prints p (Arrived packet) is = (tt, λ h. cc)
-added_prints p Ticked is = (tt, λ h. cc)
-added_prints p (Lost packet) is = (tt, λ h. cc)
-added_prints p (RootsOf object asker roots) is = (tt, λ h. cc)
-added_prints p item is = absurd (false≢true is)
 
 module _ (p : SettingsValue) where
   one_told : (item : Record) → CanPrint p item → AreCarriedTold p 1 (item ∷ [])
@@ -107,16 +97,16 @@ module _ (b : Beginning) (log : List Record) (run : IsRunOfTurns true b log) whe
       (both_told p 1 1 (Ticked ∷ []) added (one_told p Ticked (tt, λ h. cc)) (added_told p added follows.1.0 few))
 
   -- its steps have names of the settings, as those of the longer log have
-  names_of_turn : (group : List Record) (next : IsTurnGroup b log group) → IsRunOfTurns true b (log ++ group)
+  names_of_turn : (group : List Record) (next : IsTurnGroup true b log group) → IsRunOfTurns true b (log ++ group)
       → HaveNames p (reduced_group next.turn)
   names_of_turn group next longer =
       let reduces : reduced group ≡ reduced_group next.turn =
-      ap reduced (sym next.is) ∙ turn_reduced true next.turn (is_turn b log next.turn (kept b log run) next.follows) in
+      ap reduced (sym next.is) ∙ turn_reduced true next.turn (is_turn true b log next.turn (kept b log run) next.follows) in
       let all : HaveNames p (reduced log ++ reduced group) =
       subst (HaveNames p) (reduced-append log group) (runs_reduce.run true b (log ++ group) longer).steps in
       subst (HaveNames p) reduces (steps_after p (reduced log) (reduced group) all)
 
-  next_told : (group : List Record) → IsTurnGroup b log group → IsRunOfTurns true b (log ++ group) → AreCarriedTold p 6 group
+  next_told : (group : List Record) → IsTurnGroup true b log group → IsRunOfTurns true b (log ++ group) → AreCarriedTold p 6 group
   next_told group next longer =
       subst (AreCarriedTold p 6) next.is (turn_told next.turn next.follows (names_of_turn group next longer) next.few)
 

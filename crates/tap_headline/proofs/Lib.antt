@@ -17,6 +17,8 @@ mod Openings
 mod CarriedEnds
 mod CarriedMoments
 mod CarriedTaken
+mod RootSets
+mod RootSetLogs
 mod CarriedHeadline
 mod CarriedPrinted
 pub mod Runs

@@ -1,5 +1,5 @@
 -- The log of a run can be printed, and has few records.
-use Rattle.std.proofs.Common.{◌≡◌, inl, inr, ℕ, ◌+◌, ◌*◌, ◌<◌, ◌≤◌, List, [], ◌∷◌, ◌++◌, length, All, Some, refl, ap, sym, subst, ◌∙◌, arith, append_assoc, append-nil, length-append}
+use Rattle.std.proofs.Common.{◌≡◌, inl, inr, ℕ, ◌+◌, ◌*◌, ◌<◌, ◌≤◌, Bool, true, false, not, cond, List, [], ◌∷◌, ◌++◌, length, All, Some, refl, ap, sym, subst, ◌∙◌, arith, append_assoc, append-nil, length-append}
 use Rattle.std.proofs.lemmas.Bool.{cases_Bool}
 use Rattle.std.specs.Prelude.{nat_le}
 use Rattle.std.proofs.lemmas.List.Elements.{All-append, All-cons, All-head, All-nil, All-tail}
@@ -9,26 +9,27 @@ use Rattle.tap_log.specs.declared.record.Record.{Record}
 use Rattle.tap_log.specs.declared.record.Record.TheVariants.{Step as StepRecord, Spent, Finished}
 use Rattle.tap_log.specs.Counts.{sent_count}
 use Rattle.tap_log.specs.Kinds.{sent_number, taken_number}
+use Rattle.tap_log.specs.Reduced.{is_added, reduced}
 use Rattle.tap_history.specs.Groups.{EachGroupFrom, groups_of, records_of}
+use Rattle.tap_history.proofs.Parts.{log_is_groups}
 use Rattle.tap_report.specs.Text.{ArePrintable}
 use Rattle.tap_report.proofs.TextLemmas.{same_settings}
 use Rattle.tap_runs.specs.Beginning.{Beginning, begin_record}
 use Rattle.tap_runs.specs.Course.{Follows}
 use Rattle.tap_runs.proofs.CourseGrows.{log_is}
-use Rattle.tap_lawful.specs.Next.{begun_count, beginning_in}
-use Rattle.tap_lawful.specs.Lawful.{ComesNext, IsPlayed, IsSpent, step_alone}
+use Rattle.tap_lawful.specs.Next.{beginning_in, next_group, uncarried_next_group}
+use Rattle.tap_lawful.specs.Lawful.{ComesNext, IsLogWith, IsPlayed, IsPlayedWith, IsUncarriedLogOf, IsUncarriedPlayed, NextGroup, step_alone}
 use Rattle.tap_lawful.specs.PlayedLaws.{left_of}
-use Rattle.tap_lawful.proofs.Coming.{coming}
 use Rattle.tap_lawful.proofs.Less.{less_left}
 use Rattle.tap_lawful.proofs.Played.{sent_count-append, sent_no_fewer}
+use Rattle.tap_lawful.proofs.Uncarried.{uncarried_far}
 use Rattle.tap_runs.specs.Named.{HaveNames}
 use Rattle.tap_safe_runs.specs.Safe.{IsRun}
 use Rattle.tap_safe_runs.proofs.Lawful.{lawful_logs_are_safe}
 use Rattle.tap_safe_runs.proofs.Safe.{run_begins, run_more, steps_after, steps_before}
 use Rattle.tap_headline.specs.Printable.{CanBePrinted, LogsCanBePrinted}
-use Rattle.tap_headline.proofs.PrintedRecords.{AreTold, CanPrint, both_told, more_told, none_told}
+use Rattle.tap_headline.proofs.PrintedRecords.{AreTold, CanPrint, added_prints, both_told, more_told, none_told}
 use Rattle.tap_headline.proofs.Groups.{group_told}
-use Rattle.tap_headline.proofs.Scripts.{begun_alone, taken_alone}
 
 -- ---- the records of all groups
 
@@ -79,14 +80,19 @@ frames_few digits =
 
 -- ---- the log of a run that isn't over
 
--- the records after `Begin`, of which there are fewer than twenty million
+-- the records after `Begin`, of which there are fewer than fifty million
 pub record AreLater (s : ScenarioValue) (log : List Record) : Type 0 where
   pub later : List Record
   pub is : log ≡ begin_record (beginning_in s) ∷ later
   pub print : All (CanPrint s.settings) later
-  pub few : length later < 20000000
+  pub few : length later < 50000000
 
-played_later : (s : ScenarioValue) (log : List Record) → IsScript s → IsPlayed s log → AreLater s log
+-- of a log in which no roots are told there are fewer
+record ArePlainLater (s : ScenarioValue) (log : List Record) : Type 0 where
+  parts : AreLater s log
+  few : length log ≤ 20000000
+
+played_later : (s : ScenarioValue) (log : List Record) → IsScript s → IsPlayed s log → ArePlainLater s log
 played_later s log valid played =
     let run = lawful_logs_are_safe.runs s log valid played in
     let groups = groups_of log in
@@ -102,7 +108,11 @@ played_later s log valid played =
     let steps = valid.steps_to in
     let frames = valid.frames_to in
     let limit = frames_few s.settings.digits in
-    record { later = records_of groups; is = sym is; print = told.print; few = omega (arith, many, first, own, size, sent, steps, frames, limit) }
+    let count : length (records_of groups) < 20000000 = omega (arith, many, first, own, size, sent, steps, frames, limit) in
+    record {
+      parts = record { later = records_of groups; is = sym is; print = told.print; few = omega (arith, count) };
+      few = let whole = ap length (sym is) in omega (arith, count, whole);
+    }
   where
     sent_no_fewer_after : (item : Record) (items : List Record) → sent_count items ≤ sent_count (item ∷ items)
     sent_no_fewer_after item items =
@@ -144,24 +154,20 @@ two_end s played first last parts can other =
     let P = CanPrint s.settings in
     later_with s played (first ∷ last ∷ []) parts (All-cons P first (last ∷ []) can (All-cons P last [] other (All-nil P))) (omega arith)
 
-spent_printed : (s : ScenarioValue) (played log : List Record) → AreLater s played → IsSpent s played log → CanBePrinted log
-spent_printed s played log parts over =
-    let Ends : List Record → Type 0 = λ alone. CanBePrinted (played ++ (alone ++ Spent s.frames ∷ [])) in
-    subst CanBePrinted (sym over.log_is) (
-    elim (coming s played over.group over.next) [
-      | inl takes ↦
-          subst Ends (sym (taken_alone s played takes.number) ∙ ap step_alone takes.is)
-          (one_end s played (Spent s.frames) parts (tt, λ h. cc))
-      | inr begins ↦
-          let index = begun_count played + 1 in
-          subst Ends (sym (begun_alone s played index begins.step) ∙ ap step_alone begins.is)
-          (two_end s played (StepRecord index begins.step) (Spent s.frames) parts (tt, λ h. cc) (tt, λ h. cc))
-    ]
-    )
+-- what stands of a group that would send too many frames
+spent_printed : (s : ScenarioValue) (played : List Record) → AreLater s played → (group : List Record)
+    → CanBePrinted (played ++ (step_alone group ++ Spent s.frames ∷ []))
+unfolding step_alone
+spent_printed s played parts [] = one_end s played (Spent s.frames) parts (tt, λ h. cc)
+spent_printed s played parts (StepRecord index step ∷ items) =
+    two_end s played (StepRecord index step) (Spent s.frames) parts (tt, λ h. cc) (tt, λ h. cc)
+spent_printed s played parts (item ∷ items) = one_end s played (Spent s.frames) parts (tt, λ h. cc)
 
-pub logs_can_be_printed : LogsCanBePrinted
-logs_can_be_printed s log valid run =
-    let parts = played_later s run.played valid run.is_played in
+-- by whatever comes next
+logs_printed : (coming : NextGroup) (s : ScenarioValue) (log : List Record)
+    → ((played : List Record) → IsPlayedWith coming s played → AreLater s played) → IsLogWith coming s log → CanBePrinted log
+logs_printed coming s log later run =
+    let parts = later run.played run.is_played in
     elim run.ending [
       | inl same ↦
           subst CanBePrinted (append-nil run.played ∙ sym same)
@@ -169,6 +175,53 @@ logs_can_be_printed s log valid run =
       | inr over ↦ elim over [
         | inl finished ↦
             subst CanBePrinted (sym finished.log_is) (one_end s run.played (Finished (length s.steps)) parts (tt, λ h. cc))
-        | inr spent ↦ spent_printed s run.played log parts spent
+        | inr spent ↦ subst CanBePrinted (sym spent.log_is) (spent_printed s run.played parts spent.group)
       ]
     ]
+
+pub logs_can_be_printed : LogsCanBePrinted
+logs_can_be_printed s log valid run = logs_printed (next_group s) s log (λ played is. (played_later s played valid is).parts) run
+
+-- ---- with the roots of salted names
+
+-- what holds of each record of the reduced log, and of those that it leaves out, holds of all
+one_kept : (P : Record → Type 0) → ((item : Record) → is_added item ≡ true → P item) → (item : Record) (items : List Record) (left_out : Bool)
+    → is_added item ≡ left_out → (All P (reduced items) → All P items)
+    → All P (cond {A = List Record} (not left_out) (item ∷ reduced items) (reduced items)) → All P (item ∷ items)
+one_kept P added item items true is rest all = All-cons P item items (added item is) (rest all)
+one_kept P added item items false is rest all =
+    All-cons P item items (All-head P item (reduced items) all) (rest (All-tail P item (reduced items) all))
+
+each_kept : (P : Record → Type 0) → ((item : Record) → is_added item ≡ true → P item) → (items : List Record) → All P (reduced items) → All P items
+each_kept P added [] all = All-nil P
+each_kept P added (item ∷ items) all = one_kept P added item items (is_added item) refl (each_kept P added items) all
+
+begin_kept : (b : Beginning) (items : List Record) → reduced (begin_record b ∷ items) ≡ begin_record b ∷ reduced items
+unfolding is_added
+begin_kept b items = refl
+
+same_tail : (x y : Record) (xs ys : List Record) → x ∷ xs ≡ y ∷ ys → xs ≡ ys
+same_tail x y xs ys is = cc
+
+uncarried_later : (s : ScenarioValue) (log : List Record) → IsScript s → IsUncarriedPlayed s log → AreLater s log
+uncarried_later s log valid played =
+    let far = uncarried_far s valid log played in
+    let plain = played_later s (reduced log) valid far.plain in
+    let first = begin_record (beginning_in s) in
+    let rest = records_of (groups_of log) in
+    let is : log ≡ first ∷ rest = sym (log_is_groups log played.going) ∙ ap (λ l. l ++ rest) played.begins in
+    let less : reduced rest ≡ plain.parts.later =
+    same_tail first first (reduced rest) plain.parts.later
+    (sym (begin_kept (beginning_in s) rest) ∙ ap reduced (sym is) ∙ plain.parts.is) in
+    let half = far.few in
+    let few = plain.few in
+    let size = ap length is in
+    record {
+      later = rest;
+      is = is;
+      print = each_kept (CanPrint s.settings) (added_prints s.settings) rest (subst (All (CanPrint s.settings)) (sym less) plain.parts.print);
+      few = omega (arith, half, few, size);
+    }
+
+pub uncarried_printed : (s : ScenarioValue) (log : List Record) → IsScript s → IsUncarriedLogOf s log → CanBePrinted log
+uncarried_printed s log valid run = logs_printed (uncarried_next_group s) s log (λ played is. uncarried_later s played valid is) run

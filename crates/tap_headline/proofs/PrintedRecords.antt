@@ -4,7 +4,7 @@ use Rattle.std.specs.Prelude.{IsOk, Result, Ok, Err, is_some, unwrap_or, option_
 use Rattle.std.specs.Option.{option_map}
 use Rattle.std.specs.List.{enumerate_from, flat_map}
 use Rattle.std.proofs.Math.Nat.{mod-lt}
-use Rattle.std.proofs.lemmas.Bool.{cases_Bool}
+use Rattle.std.proofs.lemmas.Bool.{cases_Bool, false≢true}
 use Rattle.std.proofs.lemmas.List.Concat.{flat_map-cons}
 use Rattle.std.proofs.lemmas.List.Elements.{All-append, All-cons, All-head, All-map, All-nil, All-tail}
 use Rattle.tap_name.specs.Settings.{AreWithinLimits, SettingsValue}
@@ -26,10 +26,11 @@ use Rattle.tap_scenario.specs.declared.step.Step.TheVariants.{Publish, Withdraw,
 use Rattle.tap_log.specs.declared.record.LinkLine.{LinkLine}
 use Rattle.tap_log.specs.declared.record.NodeWord.{NodeWord}
 use Rattle.tap_log.specs.declared.record.Record.{Record}
-use Rattle.tap_log.specs.declared.record.Record.TheVariants.{Walked, RootOf, TableOf}
+use Rattle.tap_log.specs.declared.record.Record.TheVariants.{Arrived, Carrier, Lost, Packet, RootOf, RootsOf, TableOf, Ticked, Walked}
 use Rattle.tap_log.specs.Counts.{sent_count}
 use Rattle.tap_log.specs.Kinds.{sent_number}
 use Rattle.tap_log.specs.MoreRecords.{at_most_one}
+use Rattle.tap_log.specs.Reduced.{is_added}
 use Rattle.tap_report.specs.Text.{IsBegin, IsPrintable}
 use Rattle.tap_rule.specs.Node.{NodeState, settings_of}
 use Rattle.tap_rule.specs.Event.{Acted, Event, News}
@@ -48,6 +49,17 @@ use Rattle.tap_lawful.proofs.Played.{sent_count-append}
 -- a record that can be printed after a beginning with these settings, and that is none itself
 abbrev pub CanPrint : SettingsValue → Record → Type 0
 CanPrint p item = IsPrintable (Some p) item × (IsBegin item → ⊥)
+
+-- what the reduced log leaves out can be printed
+pub added_prints : (p : SettingsValue) (item : Record) → is_added item ≡ true → CanPrint p item
+unfolding is_added
+added_prints p Carrier is = (tt, λ h. cc)
+added_prints p (Packet number frame ack) is = (tt, λ h. cc)
+added_prints p (Arrived packet) is = (tt, λ h. cc)
+added_prints p Ticked is = (tt, λ h. cc)
+added_prints p (Lost packet) is = (tt, λ h. cc)
+added_prints p (RootsOf object asker roots) is = (tt, λ h. cc)
+added_prints p item is = absurd (false≢true is)
 
 -- each of the records can be printed, and beside those of frames there are at most so many
 pub record AreTold (p : SettingsValue) (most : ℕ) (items : List Record) : Type 0 where

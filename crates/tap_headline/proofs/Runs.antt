@@ -12,6 +12,7 @@ use Rattle.tap_log.specs.declared.record.Record.TheVariants.{Finished, Sent, Spe
 use Rattle.tap_log.specs.Counts.{sent_count}
 use Rattle.tap_log.specs.Kinds.{begins_group, step_of}
 use Rattle.tap_log.specs.Log.{begun_steps, last_of}
+use Rattle.tap_log.specs.Reduced.{reduced}
 use Rattle.tap_history.specs.Groups.{is_ended}
 use Rattle.tap_history.specs.Moments.{beginning}
 use Rattle.tap_report.specs.Text.{ArePrintable, IsBegin, IsPrintable}
@@ -19,27 +20,37 @@ use Rattle.tap_report.proofs.TextLemmas.{same_settings}
 use Rattle.tap_runs.specs.Beginning.{Beginning, begin_record}
 use Rattle.tap_carried.specs.LogTurns.{beginning_records}
 use Rattle.tap_lawful.specs.CarriedRuns.{IsCarriedCut, IsCarriedLogOf, IsCarriedPlayed, IsCarriedScript, IsCarriedSpent}
+use Rattle.tap_lawful.specs.Lawful.{step_alone}
 use Rattle.tap_lawful.specs.Next.{beginning_in}
 use Rattle.tap_lawful.specs.Runs.{IsFinishedBy, IsLogBy, IsPlayedBy, IsRunLog, IsSpentBy}
 use Rattle.tap_lawful.proofs.CarriedGrowth.{carried_all, carried_steps, within_none}
 use Rattle.tap_lawful.proofs.CarriedReduction.{carried_run, whole_next}
 use Rattle.tap_lawful.proofs.CarriedWhole.{after_alone}
 use Rattle.tap_lawful.proofs.Runs.{runs_by_carrier}
+use Rattle.tap_lawful.proofs.UncarriedLogs.{same_steps, uncarried_all, uncarried_runs_reduce}
 use Rattle.tap_headline.specs.LastRecord.{HasAllSteps}
 use Rattle.tap_headline.specs.Printable.{CanBePrinted}
 use Rattle.tap_headline.specs.Runs.{HasReadHead, HeadlineBy, RunLogsArePrinted, RunLogsEndSo, RunLogsFollow, RunLogsHaveHeadline}
+use Rattle.tap_headline.specs.Scripts.{UncarriedLogsHaveHeadline}
 use Rattle.tap_headline.proofs.CarriedHeadline.{carried_logs_have_headline}
 use Rattle.tap_headline.proofs.CarriedPrinted.{carried_printed}
-use Rattle.tap_headline.proofs.LastRecord.{all_steps, finished_says, spent_last, spent_says}
+use Rattle.tap_headline.proofs.LastRecord.{all_steps, spent_last}
 use Rattle.tap_headline.proofs.Openings.{HasOpening, opening_of}
-use Rattle.tap_headline.proofs.Printable.{logs_can_be_printed}
+use Rattle.tap_headline.proofs.Printable.{uncarried_printed}
+use Rattle.tap_headline.proofs.RootSetLogs.{uncarried_right}
 use Rattle.tap_headline.proofs.Scripts.{StepsFollow, logs_follow_scripts, logs_have_headline, no_more_steps, one_more_step}
 
 -- ---- the headline
 
+pub uncarried_logs_have_headline : UncarriedLogsHaveHeadline
+uncarried_logs_have_headline s log valid of = record {
+  headline = logs_have_headline s (reduced log) valid (uncarried_runs_reduce.ended s log valid of);
+  root_sets = uncarried_right s valid log of;
+}
+
 headline_by : (c : Bool) (s : ScenarioValue) (log : List Record) → s.carrier ≡ c → IsScript s → IsLogBy c s log → HeadlineBy c s log
 headline_by true s log is valid of = carried_logs_have_headline s log (record { valid = valid; carried = is }) of
-headline_by false s log is valid of = logs_have_headline s log valid of
+headline_by false s log is valid of = uncarried_logs_have_headline s log valid of
 
 pub run_logs_have_headline : RunLogsHaveHeadline
 run_logs_have_headline s log valid of = headline_by s.carrier s log refl valid of
@@ -100,7 +111,8 @@ carried_follows s log script of =
 
 steps_by : (c : Bool) (s : ScenarioValue) (log : List Record) → s.carrier ≡ c → IsScript s → IsLogBy c s log → StepsFollow s log
 steps_by true s log is valid of = carried_follows s log (record { valid = valid; carried = is }) of
-steps_by false s log is valid of = (logs_follow_scripts s log of).steps
+steps_by false s log is valid of =
+    subst (λ l. l ≡ take (length l) s.steps) (same_steps log) (logs_follow_scripts s (reduced log) (uncarried_runs_reduce.ended s log valid of)).steps
 
 pub run_logs_follow : RunLogsFollow
 run_logs_follow s log valid of =
@@ -120,11 +132,12 @@ finished_by : (c : Bool) (s : ScenarioValue) (played log : List Record) → s.ca
     → IsFinishedBy c s played log → HasAllSteps s log
 finished_by true s played log is valid of over =
     subst (HasAllSteps s) (sym over.log_is) (all_steps s played (carried_all s played (record { valid = valid; carried = is }) of over.none))
-finished_by false s played log is valid of over = finished_says s played log of over
+finished_by false s played log is valid of over =
+    subst (HasAllSteps s) (sym over.log_is) (all_steps s played (uncarried_all s valid played of over.none))
 
 spent_by : (c : Bool) (s : ScenarioValue) (played log : List Record) → IsSpentBy c s played log → last_of log ≡ Some (Spent s.frames)
 spent_by true s played log over = ap last_of over.log_is ∙ spent_last played (take 1 over.group) s.frames
-spent_by false s played log over = spent_says s played log over
+spent_by false s played log over = ap last_of over.log_is ∙ spent_last played (step_alone over.group) s.frames
 
 pub run_logs_end_so : RunLogsEndSo
 run_logs_end_so = record {
@@ -137,7 +150,7 @@ run_logs_end_so = record {
 
 printed_by : (c : Bool) (s : ScenarioValue) (log : List Record) → s.carrier ≡ c → IsScript s → IsLogBy c s log → CanBePrinted log
 printed_by true s log is valid of = carried_printed s (record { valid = valid; carried = is }) log of
-printed_by false s log is valid of = logs_can_be_printed s log valid of
+printed_by false s log is valid of = uncarried_printed s log valid of
 
 head_read : (p : SettingsValue) (item : Record) → IsPrintable (Some p) item → HasReadHead p item
 head_read p (Sent number bytes) is = is

@@ -15,6 +15,7 @@ use Rattle.tap_lawful.specs.CarriedRuns.{IsCarriedCut, IsCarriedLogOf, IsCarried
 use Rattle.tap_lawful.specs.Next.{beginning_in}
 use Rattle.tap_safe_runs.specs.Safe.{IsRun}
 use Rattle.tap_headline.specs.Headline.{HasHeadline}
+use Rattle.tap_headline.specs.RootSets.{RootSetsAreRight}
 
 -- ---- moments
 
@@ -45,7 +46,7 @@ AreTakenFromPackets log = (before after : List Record) (frame : ℕ) → log ≡
 -- What holds of the log of a carried run. Up to each moment of it, its reduced log has the headline, as that of a run without packets has it; the
 -- moment is one of the reduced log, a rest is a rest; and both say the same of frames, nodes and pairs, and refuse the same starts and
 -- observations. Whatever packets are lost, repeated or late, frames are taken from packets, none is taken twice, and at a rest each that was sent
--- was taken.
+-- was taken. What root sets have told is right.
 pub record CarriedRunHasHeadline (s : ScenarioValue) (log : List Record) : Type 0 where
   pub headline : AtCarriedMomentsOf s log (λ front. HasHeadline s.settings (reduced front))
   pub moments : AtCarriedMomentsOf s log IsMomentOfReduced
@@ -53,6 +54,7 @@ pub record CarriedRunHasHeadline (s : ScenarioValue) (log : List Record) : Type 
   pub arrived : AreTakenFromPackets log
   pub taken_once : (frame : ℕ) → times_taken log frame ≤ 1
   pub rest_all_taken : AtCarriedMomentsOf s log IsAllTakenAtRest
+  pub root_sets : RootSetsAreRight s.settings log
 
 -- each log of a carried run has it: that of one which isn't over, or which ended early for want of memory, and that of one which is over
 abbrev pub CarriedLogsHaveHeadline : Type 0

@@ -3,6 +3,7 @@ pub mod LastRecord
 pub mod Printable
 pub mod Endings
 pub mod Headline
+pub mod RootSets
 pub mod HasInvariant
 pub mod AsLogged
 pub mod Carried

@@ -5,18 +5,26 @@ use Rattle.std.specs.Prelude.{◌≡◌, List, ◌∷◌, take}
 use Rattle.tap_scenario.specs.Scenario.{IsScript, ScenarioValue}
 use Rattle.tap_log.specs.declared.record.Record.{Record}
 use Rattle.tap_log.specs.Log.{begun_steps}
+use Rattle.tap_log.specs.Reduced.{reduced}
 use Rattle.tap_runs.specs.Beginning.{begin_record}
 use Rattle.tap_lawful.specs.Next.{beginning_in, begun_count}
-use Rattle.tap_lawful.specs.Lawful.{IsLogOf}
+use Rattle.tap_lawful.specs.Lawful.{IsLogOf, IsUncarriedLogOf}
 use Rattle.tap_headline.specs.Headline.{HasHeadline}
+use Rattle.tap_headline.specs.RootSets.{RootSetsAreRight}
 
--- The log has the headline, by the settings of the scenario: docs/PROOFS.md, "The headline, sentence by sentence".
-abbrev pub RunHasHeadline : ScenarioValue → List Record → Type 0
-RunHasHeadline s log = HasHeadline s.settings log
+-- What holds of the log of a run that isn't carried. Its reduced log has the headline, by the settings of the scenario: docs/PROOFS.md, "The headline,
+-- sentence by sentence"; a log without added records is its own reduced log. And what root sets have told is right.
+pub record RunHasHeadline (s : ScenarioValue) (log : List Record) : Type 0 where
+  pub headline : HasHeadline s.settings (reduced log)
+  pub root_sets : RootSetsAreRight s.settings log
 
 -- each log of a run has it: that of one which isn't over, or which ended early for want of memory, and that of one which is over
+abbrev pub UncarriedLogsHaveHeadline : Type 0
+UncarriedLogsHaveHeadline = (s : ScenarioValue) (log : List Record) → IsScript s → IsUncarriedLogOf s log → RunHasHeadline s log
+
+-- and so has each reduced log
 abbrev pub LogsHaveHeadline : Type 0
-LogsHaveHeadline = (s : ScenarioValue) (log : List Record) → IsScript s → IsLogOf s log → RunHasHeadline s log
+LogsHaveHeadline = (s : ScenarioValue) (log : List Record) → IsScript s → IsLogOf s log → HasHeadline s.settings log
 
 -- the log begins as the scenario does, and its steps are the scenario's first ones
 pub record FollowsScript (s : ScenarioValue) (log : List Record) : Type 0 where

@@ -1,7 +1,8 @@
 ghost use Rattle.tap_headline.specs.Carried.{CarriedLogsHaveHeadline, ReducedLogsAreRuns, UncutLogsKeepMoments};
 ghost use Rattle.tap_headline.specs.LastRecord.{LogsEndSo};
 ghost use Rattle.tap_headline.specs.Runs.{RunLogsArePrinted, RunLogsEndSo, RunLogsFollow, RunLogsHaveHeadline};
-ghost use Rattle.tap_headline.specs.Scripts.{LogsFollowScripts, LogsHaveHeadline};
+ghost use Rattle.tap_headline.specs.RootSets.{HeadlineFindsSalts};
+ghost use Rattle.tap_headline.specs.Scripts.{LogsFollowScripts, LogsHaveHeadline, UncarriedLogsHaveHeadline};
 ghost use Rattle.tap_headline.specs.Printable.{LogsCanBePrinted};
 ghost use Rattle.tap_headline.specs.Endings.{EndingsChangeNothing};
 ghost use Rattle.tap_headline.specs.Headline.{EndedLogsHaveHeadline};
@@ -86,4 +87,16 @@ pub fn runs_law()
     ensures headline { RunLogsHaveHeadline }
     ensures ends { RunLogsEndSo }
     ensures printed { RunLogsArePrinted }
+{}
+
+/// What a root set tells is right, in each log of a run that isn't carried: of each of the four salts of its object the root over the core nodes, at which walks to
+/// the salt from each core node end. And a lookup of a salt that is made alone, at a rest at which a pair of this salt is published, finds a server
+/// of it.
+///
+/// It does nothing: its contract is the law.
+///
+/// Rule: docs/PROTOCOL.md, "Salted names".
+pub fn root_sets_law()
+    ensures right { UncarriedLogsHaveHeadline }
+    ensures found { HeadlineFindsSalts }
 {}

@@ -8,5 +8,5 @@ mod law;
 
 pub use law::{
     carried_headline_law, ended_headline_law, endings_law, headline_law, last_record_law,
-    printable_law, runs_law,
+    printable_law, root_sets_law, runs_law,
 };

@@ -1,6 +1,6 @@
 -- What one more record at the end of a log changes.
--- Cited above: accepted_steps-push, core_of-left, core_of-push, leaves_nodes, names_of-push, one_before, present_of-left, present_of-push,
--- published_of-push, record_changes_hold
+-- Cited above: accepted_steps-push, core_of-left, core_of-push, core_of-same, leaves_nodes, names_of-push, one_before, present_of-left,
+-- present_of-push, published_of-push, record_changes_hold
 use Rattle.std.proofs.Common.{◌≡◌, ℕ, ◌+◌, Bool, true, false, List, [], ◌∷◌, ◌++◌, length, filter, not, nat_eq, Option, None, Some, refl, ap, sym, ◌∙◌, append_assoc, append-nil, length-append, cond}
 use Rattle.std.specs.Prelude.{option_and_then, slice_get, fold, ◌||◌, if◌then◌else◌}
 use Rattle.std.specs.List.{filter_map, cons_option}

@@ -34,12 +34,12 @@ begun-append log group = filter_map-append step_of log group
 
 module _ (s other : ScenarioValue) (same : other.settings ≡ s.settings) where
   -- the frame that is due is the same
-  taken_alike : (log group : List Record) → TakesDue s log group → ComesNext other log group
+  pub taken_alike : (log group : List Record) → TakesDue s log group → ComesNext other log group
   taken_alike log group taken =
       ap (group_after other log) taken.due ∙ ap (λ p. Some (taken_group p log taken.number)) same ∙ ap Some taken.is
 
   -- so is the next step, if these are first steps of the other scenario
-  begun_alike : (log group rest : List Record) (n : ℕ) → BeginsNext s log group
+  pub begun_alike : (log group rest : List Record) (n : ℕ) → BeginsNext s log group
       → take n other.steps ≡ begun_steps (log ++ (group ++ rest)) → ComesNext other log group
   begun_alike log group rest n begun steps =
       let index = begun_count log + 1 in

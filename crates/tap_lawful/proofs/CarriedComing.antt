@@ -4,7 +4,7 @@ use Rattle.std.proofs.Common.{◌≡◌, ◌⊎◌, inl, inr, ℕ, ◌+◌, Bool
 use Rattle.std.specs.Prelude.{slice_get}
 use Rattle.tap_name.specs.Settings.{SettingsValue}
 use Rattle.tap_scenario.specs.declared.step.Step.{Step}
-use Rattle.tap_scenario.specs.declared.step.Step.TheVariants.{Lose, Repeat}
+use Rattle.tap_scenario.specs.declared.step.Step.TheVariants.{Lose, Repeat, RootSet}
 use Rattle.tap_scenario.specs.Scenario.{ScenarioValue}
 use Rattle.tap_scenario.proofs.Options.{option_map-back}
 use Rattle.tap_log.specs.declared.record.Record.{Record}
@@ -18,6 +18,7 @@ use Rattle.tap_lawful.specs.CarriedDue.Due.{ArrivalDue, TickDue}
 use Rattle.tap_lawful.specs.CarriedNext.{accepted_group, begun_group, carried_group_after, choice_group, group_unless, losing_group, reduced_step_records, reduced_taken_records, repeating_group}
 use Rattle.tap_lawful.specs.CarriedRuns.{CarriedComesNext}
 use Rattle.tap_lawful.specs.Next.{begun_count, next_step}
+use Rattle.tap_lawful.specs.RootSets.{roots_record}
 
 -- the packet that is due arrives
 pub record ArrivesDue (s : ScenarioValue) (log group : List Record) : Type 0 where
@@ -66,15 +67,16 @@ repeating_head : (log : List Record) (index place : ℕ) (line : Option PacketLi
 repeating_head log index place None = ([], refl)
 repeating_head log index place (Some line) = (packet_record (copied_line log line) ∷ [], refl)
 
-choice_head : (log : List Record) (index : ℕ) (step : Step) → BeginsWith (StepRecord index step) (choice_group log index step)
+choice_head : (p : SettingsValue) (log : List Record) (index : ℕ) (step : Step) → BeginsWith (StepRecord index step) (choice_group p log index step)
 unfolding choice_group
-choice_head log index (Lose place) = losing_head index place (slice_get (lines_under_way log) place)
-choice_head log index (Repeat place) = repeating_head log index place (slice_get (lines_under_way log) place)
-choice_head log index step = ([], refl)
+choice_head p log index (Lose place) = losing_head index place (slice_get (lines_under_way log) place)
+choice_head p log index (Repeat place) = repeating_head log index place (slice_get (lines_under_way log) place)
+choice_head p log index (RootSet object asker) = (roots_record p log object asker ∷ [], refl)
+choice_head p log index step = ([], refl)
 
 accepted_head : (p : SettingsValue) (log : List Record) (index : ℕ) (step : Step) (choice : Bool)
     → BeginsWith (StepRecord index step) (accepted_group choice p log index step)
-accepted_head p log index step true = choice_head log index step
+accepted_head p log index step true = choice_head p log index step
 accepted_head p log index step false =
     let done = reduced_step_records p log index step in (done ++ data_packets log (frames_sent done), refl)
 

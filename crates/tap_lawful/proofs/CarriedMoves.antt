@@ -4,9 +4,10 @@ use Rattle.std.specs.Prelude.{Contains, nat_lt, slice_get}
 use Rattle.std.specs.List.{cons_option, range_with_len}
 use Rattle.std.proofs.lemmas.Bool.{false≢true, ltb-false}
 use Rattle.std.proofs.lemmas.List.FromFn.{length-range_with_len}
+use Rattle.tap_name.specs.Settings.{SettingsValue}
 use Rattle.tap_scenario.specs.Scenario.{ScenarioValue}
 use Rattle.tap_scenario.specs.declared.step.Step.{Step}
-use Rattle.tap_scenario.specs.declared.step.Step.TheVariants.{Tick, Lose, Repeat}
+use Rattle.tap_scenario.specs.declared.step.Step.TheVariants.{Tick, Lose, Repeat, RootSet}
 use Rattle.tap_log.specs.declared.record.Record.{Record}
 use Rattle.tap_log.specs.declared.record.Record.TheVariants.{Step as StepRecord, Taken, Arrived, Refused}
 use Rattle.tap_log.specs.declared.record.Refusal.{Refusal}
@@ -36,6 +37,7 @@ use Rattle.tap_carried.proofs.ReducedRuns.{runs_reduce}
 use Rattle.tap_carried.proofs.TurnsKept.{IsKept}
 use Rattle.tap_lawful.specs.CarriedNext.{accepted_group, choice_group, group_unless, losing_group, reduced_step_records, reduced_taken_records, repeating_group}
 use Rattle.tap_lawful.specs.Next.{beginning_in}
+use Rattle.tap_lawful.specs.RootSets.{roots_record}
 use Rattle.tap_lawful.proofs.CarriedChoosing.{contains_at}
 
 -- ---- records of nodes
@@ -55,6 +57,23 @@ refused_acted log index refusal = record { sends = refl; begins = refl; takes = 
 refused_sends : (index : ℕ) (refusal : Refusal) → frames_sent (Refused index refusal ∷ []) ≡ []
 unfolding sent_number
 refused_sends index refusal = refl
+
+-- roots that are told send nothing
+module _ (p : SettingsValue) (log : List Record) (index : ℕ) (object asker : List ℕ) where
+  abbrev roots : List Record
+  roots = roots_record p log object asker ∷ []
+
+  roots_acted : AreActed log roots
+  unfolding sent_number taken_number made_packet ended_number
+  roots_acted = record { sends = refl; begins = refl; takes = refl; makes = refl; ends = refl }
+
+  roots_sends : frames_sent roots ≡ []
+  unfolding sent_number
+  roots_sends = refl
+
+  roots_are : group_of log (Acts index (RootSet object asker) roots) ≡ StepRecord index (RootSet object asker) ∷ roots
+  unfolding sent_number
+  roots_are = refl
 
 -- ---- steps
 
@@ -207,8 +226,18 @@ module _ (s : ScenarioValue) (log : List Record) (run : IsRunOfTurns true (begin
       allowed = (left, few);
     }
 
-    choice_move : (step : Step) → first_refusal log step ≡ None → choice_group log index step ≡ group → IsMoveGroup steps log group
+    roots_move : (object asker : List ℕ) → StepRecord index (RootSet object asker) ∷ roots_record s.settings log object asker ∷ [] ≡ group
+        → IsMoveGroup steps log group
+    roots_move object asker is = record {
+      move = Acts index (RootSet object asker) (roots_record s.settings log object asker ∷ []);
+      is = roots_are s.settings log index object asker ∙ is;
+      moves = (roots_acted s.settings log index object asker, λ again. roots_sends s.settings log index object asker);
+      allowed = left;
+    }
+
+    choice_move : (step : Step) → first_refusal log step ≡ None → choice_group s.settings log index step ≡ group → IsMoveGroup steps log group
     unfolding choice_group
+    choice_move (RootSet object asker) accepted is = roots_move object asker is
     choice_move (Lose place) accepted is = losing_move place (slice_get (lines_under_way log) place) refl is
     choice_move (Repeat place) accepted is =
         repeating_move place (slice_get (lines_under_way log) place) refl

@@ -1,44 +1,32 @@
 -- The log of a carried run is one of turns that may follow, so its reduced log is that of a run.
--- Cited above: by_carried, carried_run, carried_runs_reduce, run_more, run_starts, script_steps, whole_next
-use Rattle.std.proofs.Common.{◌≡◌, ◌≤◌, Bool, true, List, [], ◌∷◌, ◌++◌, All, refl, sym, subst, ap, ◌∙◌, append-nil, append_assoc, arith}
+-- Cited above: by_carried, carried_run, carried_runs_reduce, run_more, run_push, run_starts, script_steps, whole_next
+use Rattle.std.proofs.Common.{◌≡◌, ◌≤◌, Bool, true, List, [], ◌∷◌, ◌++◌, All, refl, sym, subst, ap, ◌∙◌}
 use Rattle.tap_scenario.specs.Scenario.{ScenarioValue}
 use Rattle.tap_scenario.specs.Step.{IsStep}
 use Rattle.tap_log.specs.declared.record.Record.{Record}
 use Rattle.tap_log.specs.Counts.{sent_count}
-use Rattle.tap_history.specs.Groups.{EachGroupFrom, beginning_of, groups_of, records_of}
-use Rattle.tap_history.proofs.Parts.{log_is_groups}
 use Rattle.tap_runs.specs.Beginning.{Beginning}
 use Rattle.tap_carried.specs.LogTurns.{Turn, beginning_records, group_of_turn, log_after_turns}
 use Rattle.tap_carried.specs.ReducedRuns.{IsRunOfTurns, TurnFollows, TurnsFollow}
 use Rattle.tap_carried.proofs.ReducedLogs.{logs_agree}
 use Rattle.tap_carried.proofs.ReducedRuns.{runs_reduce}
 use Rattle.tap_lawful.specs.CarriedLaws.{CarriedRunsReduce}
+use Rattle.tap_lawful.specs.CarriedNext.{carried_next_group}
 use Rattle.tap_lawful.specs.CarriedRuns.{CarriedComesNext, IsCarriedPlayed, IsCarriedScript}
 use Rattle.tap_lawful.specs.Next.{beginning_in}
 use Rattle.tap_lawful.proofs.CarriedTurns.{IsTurnGroup, turn_of_group}
-use Rattle.tap_lawful.proofs.CarriedWhole.{IsCarriedWhole, whole_carried}
-use Rattle.tap_lawful.proofs.Played.{script_within, sent_no_fewer}
+use Rattle.tap_lawful.proofs.CarriedWhole.{IsCarriedWhole, whole_turn}
+use Rattle.tap_lawful.proofs.Played.{by_next, script_within}
 
 -- ---- what holds of each log of a carried run
 
-module _ (s : ScenarioValue) (P : List Record → Type 0)
-    (keeps : (log group : List Record) → P log → CarriedComesNext s log group → sent_count (log ++ group) ≤ s.frames → P (log ++ group)) where
-  after_carried : (log : List Record) (groups : List (List Record)) → EachGroupFrom (CarriedComesNext s) log groups
-      → sent_count (log ++ records_of groups) ≤ s.frames → P log → P (log ++ records_of groups)
-  after_carried log [] each within p = subst P (sym (append-nil log)) p
-  after_carried log (group ∷ groups) each within p =
-      let same = append_assoc log group (records_of groups) in
-      let rest : sent_count ((log ++ group) ++ records_of groups) ≤ s.frames = subst (λ l. sent_count l ≤ s.frames) (sym same) within in
-      let fewer = sent_no_fewer (log ++ group) (records_of groups) in
-      subst P same (after_carried (log ++ group) groups each.1 rest (keeps log group p each.0 (omega (arith, rest, fewer))))
-
-  -- what holds of the beginning, and is kept by each group that comes next, holds of each log of a carried run
-  pub by_carried : P (beginning_records true (beginning_in s)) → (log : List Record) → IsCarriedPlayed s log → P log
-  by_carried starts log played =
-      let whole = log_is_groups log played.going in
-      subst P whole
-      (after_carried (beginning_of log) (groups_of log) played.each (subst (λ l. sent_count l ≤ s.frames) (sym whole) played.within)
-      (subst P (sym played.begins) starts))
+-- what holds of the beginning, and is kept by each group that comes next, holds of each log of a carried run
+pub by_carried : (s : ScenarioValue) (P : List Record → Type 0)
+    → ((log group : List Record) → P log → CarriedComesNext s log group → sent_count (log ++ group) ≤ s.frames → P (log ++ group))
+    → P (beginning_records true (beginning_in s)) → (log : List Record) → IsCarriedPlayed s log → P log
+by_carried s P keeps starts log played =
+    by_next (carried_next_group s) s.frames P keeps (beginning_records true (beginning_in s)) log starts played.begins played.each
+    played.within played.going
 
 -- ---- one more turn
 
@@ -53,15 +41,16 @@ after_push : (c : Bool) (log : List Record) (turns : List Turn) (turn : Turn)
 after_push c log [] turn = refl
 after_push c log (first ∷ turns) turn = after_push c (log ++ group_of_turn c first) turns turn
 
-run_push : (b : Beginning) (log group : List Record) → IsRunOfTurns true b log → IsTurnGroup b log group → IsRunOfTurns true b (log ++ group)
-run_push b log group run next =
-    let start = beginning_records true b in
+pub run_push : (c : Bool) (b : Beginning) (log group : List Record) → IsRunOfTurns c b log → IsTurnGroup c b log group
+    → IsRunOfTurns c b (log ++ group)
+run_push c b log group run next =
+    let start = beginning_records c b in
     record {
       limits = run.limits;
       turns = run.turns ++ next.turn ∷ [];
-      follow = follow_push true b start run.turns next.turn run.follow (subst (λ l. TurnFollows true b l next.turn) run.is next.follows);
-      is = ap (λ g. log ++ g) (sym next.is) ∙ ap (λ l. l ++ group_of_turn true next.turn) run.is
-          ∙ sym (after_push true start run.turns next.turn);
+      follow = follow_push c b start run.turns next.turn run.follow (subst (λ l. TurnFollows c b l next.turn) run.is next.follows);
+      is = ap (λ g. log ++ g) (sym next.is) ∙ ap (λ l. l ++ group_of_turn c next.turn) run.is
+          ∙ sym (after_push c start run.turns next.turn);
     }
 
 -- ---- all turns
@@ -73,7 +62,7 @@ module _ (s : ScenarioValue) (script : IsCarriedScript s) where
   pub run_more : (log group : List Record) → IsRunOfTurns true (beginning_in s) log → CarriedComesNext s log group
       → sent_count (log ++ group) ≤ s.frames → IsRunOfTurns true (beginning_in s) (log ++ group)
   run_more log group run comes within =
-      run_push (beginning_in s) log group run (turn_of_group s log run s.frames group script_steps comes within)
+      run_push true (beginning_in s) log group run (turn_of_group s log run s.frames group script_steps comes within)
 
   pub run_starts : IsRunOfTurns true (beginning_in s) (beginning_records true (beginning_in s))
   run_starts = record { limits = script_within s script.valid; turns = []; follow = tt; is = refl }
@@ -85,7 +74,7 @@ module _ (s : ScenarioValue) (script : IsCarriedScript s) where
   pub whole_next : (log group : List Record) → IsRunOfTurns true (beginning_in s) log → CarriedComesNext s log group
       → sent_count (log ++ group) ≤ s.frames → IsCarriedWhole log group
   whole_next log group run comes within =
-      whole_carried (beginning_in s) log group run (turn_of_group s log run s.frames group script_steps comes within)
+      whole_turn true (beginning_in s) log group run (turn_of_group s log run s.frames group script_steps comes within)
       (run_more log group run comes within)
 
 pub carried_runs_reduce : CarriedRunsReduce

@@ -1,18 +1,19 @@
 -- The group that comes next in a carried run is a turn that may follow.
--- Cited above: added_of, IsTurnGroup, turn_of_group
-use Rattle.std.proofs.Common.{◌≡◌, inl, inr, ℕ, suc, ◌+◌, ◌≤◌, Bool, true, false, List, [], ◌∷◌, ◌++◌, length, map, All, Option, None, Some, refl, ap, sym, subst, ◌∙◌, arith, length-append}
-use Rattle.std.specs.Prelude.{slice_get}
+-- Cited above: added_of, IsRootSetTurn, IsTurnGroup, next_is_step, TellsNoRoots, turn_of_group
+use Rattle.std.proofs.Common.{◌≡◌, ◌⊎◌, inl, inr, ℕ, suc, ◌+◌, ◌≤◌, Bool, true, false, List, [], ◌∷◌, ◌++◌, length, map, All, Option, None, Some, refl, ap, sym, subst, ◌∙◌, arith, length-append}
+use Rattle.std.specs.Prelude.{◌&&◌, ◌==◌, slice_get}
 use Rattle.std.specs.List.{filter_map}
 use Rattle.std.proofs.lemmas.Bool.{false≢true}
-use Rattle.std.proofs.lemmas.List.Elements.{All-get_or, All-nil}
+use Rattle.std.proofs.lemmas.List.Elements.{All-append, All-cons, All-get_or, All-nil}
 use Rattle.std.proofs.lemmas.Option.{get_or_from_slice_get, slice_get_within}
 use Rattle.tap_name.specs.Settings.{SettingsValue}
+use Rattle.tap_salt.specs.Salt.{is_salted}
 use Rattle.tap_scenario.specs.Scenario.{ScenarioValue}
 use Rattle.tap_scenario.specs.Step.{IsStep}
 use Rattle.tap_scenario.specs.declared.step.Step.{Step}
-use Rattle.tap_scenario.specs.declared.step.Step.TheVariants.{Deliver, Settle, SettleNewest, SettleMixed, Garble, Cut, Tick, Lose, Repeat}
+use Rattle.tap_scenario.specs.declared.step.Step.TheVariants.{Deliver, Settle, SettleNewest, SettleMixed, Garble, Cut, Tick, Lose, Repeat, RootSet}
 use Rattle.tap_log.specs.declared.record.Record.{Record}
-use Rattle.tap_log.specs.declared.record.Record.TheVariants.{Step as StepRecord, Taken, Arrived, Refused}
+use Rattle.tap_log.specs.declared.record.Record.TheVariants.{Step as StepRecord, Taken, Arrived, Lost, Refused, RootsOf}
 use Rattle.tap_log.specs.declared.record.Refusal.{Refusal}
 use Rattle.tap_log.specs.Counts.{packet_count, sent_count}
 use Rattle.tap_log.specs.Kinds.{packet_number, sent_number}
@@ -37,6 +38,7 @@ use Rattle.tap_carried.proofs.ReducedRuns.{runs_reduce}
 use Rattle.tap_lawful.specs.CarriedNext.{accepted_group, choice_group, group_unless, losing_group, reduced_step_records, reduced_taken_records, repeating_group}
 use Rattle.tap_lawful.specs.CarriedRuns.{CarriedComesNext}
 use Rattle.tap_lawful.specs.Next.{beginning_in, begun_count}
+use Rattle.tap_lawful.specs.RootSets.{roots_record}
 use Rattle.tap_lawful.proofs.CarriedComing.{carried_coming}
 use Rattle.tap_lawful.proofs.Played.{sent_count-append, sent_no_fewer}
 
@@ -54,6 +56,7 @@ no_damage p (SettleMixed seed) is choice = absurd (false≢true (sym choice))
 no_damage p Tick is choice = absurd (false≢true (sym choice))
 no_damage p (Lose place) is choice = absurd (false≢true (sym choice))
 no_damage p (Repeat place) is choice = absurd (false≢true (sym choice))
+no_damage p (RootSet object asker) is choice = absurd (false≢true (sym choice))
 no_damage p step is choice = refl
 
 -- the step that is begun next is one of the scenario's
@@ -70,12 +73,51 @@ added_of (Takes packet frame items added) = added
 added_of (Arrives packet added) = added
 added_of (Ticks added) = added
 
--- the group is that of a turn which may follow, and what is added are packets, but for one record
-pub record IsTurnGroup (b : Beginning) (log group : List Record) : Type 0 where
+-- the record tells no roots
+unfoldable pub TellsNoRoots : Record → Type 0
+TellsNoRoots (RootsOf object asker found) = ⊥
+TellsNoRoots other = Unit {0}
+
+-- the turn is a root set that isn't refused, and tells its roots
+pub record IsRootSetTurn (p : SettingsValue) (log : List Record) (turn : Turn) : Type 0 where
+  pub index : ℕ
+  pub object : List ℕ
+  pub asker : List ℕ
+  pub is : turn ≡ Steps index (RootSet object asker) [] (roots_record p log object asker ∷ [])
+  pub accepted : first_refusal log (RootSet object asker) ≡ None
+  pub salted : is_salted p ≡ true
+
+-- a root set is a step of scenarios whose names are as long as a digest
+pub root_set_salted : (p : SettingsValue) (carrier : Bool) (object asker : List ℕ) → IsStep p carrier (RootSet object asker)
+    → is_salted p ≡ true
+root_set_salted p carrier object asker is = ap (λ n. (n == 16) && (p.digits == 40)) is.0 ∙ ap (λ n. n == 40) is.1
+
+-- the group is that of a turn which may follow, and what is added are packets, but for one record; only a root set tells roots
+pub record IsTurnGroup (c : Bool) (b : Beginning) (log group : List Record) : Type 0 where
   pub turn : Turn
-  pub is : group_of_turn true turn ≡ group
-  pub follows : TurnFollows true b log turn
+  pub is : group_of_turn c turn ≡ group
+  pub follows : TurnFollows c b log turn
   pub few : length (added_of turn) ≤ 1 + packet_count (added_of turn)
+  pub tells : All TellsNoRoots (added_of turn) ⊎ IsRootSetTurn b.settings log turn
+
+-- a packet tells no roots
+packet_tells : (line : PacketLine) → TellsNoRoots (packet_record line)
+unfolding TellsNoRoots
+packet_tells line = tt
+
+lines_tell : (lines : List PacketLine) → All TellsNoRoots (map packet_record lines)
+lines_tell [] = All-nil TellsNoRoots
+lines_tell (line ∷ lines) = All-cons TellsNoRoots (packet_record line) (map packet_record lines) (packet_tells line) (lines_tell lines)
+
+packets_tell : (log : List Record) (frames : List ℕ) → All TellsNoRoots (data_packets log frames)
+packets_tell log frames = lines_tell (data_lines (packet_count log) frames)
+
+one_tells : (line : PacketLine) → All TellsNoRoots (packet_record line ∷ [])
+one_tells line = lines_tell (line ∷ [])
+
+lost_tells : (number : ℕ) → All TellsNoRoots (Lost number ∷ [])
+unfolding TellsNoRoots
+lost_tells number = All-cons TellsNoRoots (Lost number) [] tt (All-nil TellsNoRoots)
 
 -- each data packet is counted
 lines_counted : (lines : List PacketLine) → packet_count (map packet_record lines) ≡ length (map packet_record lines)
@@ -132,12 +174,13 @@ module _ (s : ScenarioValue) (log : List Record) (run : IsRunOfTurns true (begin
 
     arrival_turn : (ack waits : Bool) (group : List Record) → has_number (outstanding log) line.frame ≡ waits
         → Arrived line.number ∷ arrival_records log line items ack waits ≡ group → sent_count (log ++ group) ≤ most
-        → IsTurnGroup b log group
+        → IsTurnGroup true b log group
     arrival_turn true waits group are is within = record {
       turn = Arrives line.number [];
       is = is;
       follows = carrier_turns_follow.acknowledged b log line.number;
       few = omega arith;
+      tells = inl (All-nil TellsNoRoots);
     }
     arrival_turn false true group are is within =
         let ack = ack_line (packet_count log + sent_count items) line.frame in
@@ -148,6 +191,8 @@ module _ (s : ScenarioValue) (log : List Record) (run : IsRunOfTurns true (begin
           follows = carrier_turns_follow.taken b log line.number line.frame items ack
               (taken_follows are (fits (Arrived line.number ∷ []) (Taken line.frame ∷ items) added group is within));
           few = with_ack_counted log (filter_map sent_number items) ack;
+          tells = inl (All-append TellsNoRoots (packets_sent log items) (packet_record ack ∷ []) (packets_tell log (filter_map sent_number items))
+              (one_tells ack));
         }
     arrival_turn false false group are is within =
         let ack = ack_line (packet_count log) line.frame in
@@ -156,6 +201,7 @@ module _ (s : ScenarioValue) (log : List Record) (run : IsRunOfTurns true (begin
           is = is;
           follows = carrier_turns_follow.again b log line.number ack;
           few = omega arith;
+          tells = inl (one_tells ack);
         }
 
   -- ---- a step begins
@@ -174,12 +220,13 @@ module _ (s : ScenarioValue) (log : List Record) (run : IsRunOfTurns true (begin
     step_follows items added is may =
         record { may = may; within = fits [] (StepRecord index step ∷ items) added group is within }
 
-    nothing_added : (items : List Record) → StepRecord index step ∷ (items ++ []) ≡ group → Says items → IsTurnGroup b log group
+    nothing_added : (items : List Record) → StepRecord index step ∷ (items ++ []) ≡ group → Says items → IsTurnGroup true b log group
     nothing_added items is may = record {
       turn = Steps index step items [];
       is = is;
       follows = ((step_follows items [] is may, step_of_scenario_has_names s.settings true step valid), (All-nil IsAddedRecord, λ starts none. refl));
       few = omega arith;
+      tells = inl (All-nil TellsNoRoots);
     }
 
     -- the refusal is that of the reduced log, or it is of a choice
@@ -199,18 +246,19 @@ module _ (s : ScenarioValue) (log : List Record) (run : IsRunOfTurns true (begin
     acted_says true is = absurd (false≢true (sym is))
     acted_says false is = refl
 
-    acted_turn : is_choice step ≡ false → StepRecord index step ∷ (done ++ packets_sent log done) ≡ group → IsTurnGroup b log group
+    acted_turn : is_choice step ≡ false → StepRecord index step ∷ (done ++ packets_sent log done) ≡ group → IsTurnGroup true b log group
     acted_turn acts is = record {
       turn = Steps index step done (packets_sent log done);
       is = is;
       follows = carrier_turns_follow.step b log index step done
           (step_follows done (packets_sent log done) is (acted_says (is_choice step) acts)) (step_of_scenario_has_names s.settings true step valid);
       few = packets_counted log (filter_map sent_number done);
+      tells = inl (packets_tell log (filter_map sent_number done));
     }
 
   module _ (index : ℕ) (group : List Record) (within : sent_count (log ++ group) ≤ most) where
     losing_turn : (place : ℕ) (line : Option PacketLine) → IsStep s.settings true (Lose place) → losing_group index place line ≡ group
-        → IsTurnGroup b log group
+        → IsTurnGroup true b log group
     unfolding is_choice
     losing_turn place None valid is = nothing_added index (Lose place) valid group within [] is (inl refl)
     losing_turn place (Some line) valid is = record {
@@ -219,10 +267,11 @@ module _ (s : ScenarioValue) (log : List Record) (run : IsRunOfTurns true (begin
       follows = carrier_turns_follow.lost b log index place line.number
           (step_follows index (Lose place) valid group within [] _ is (inl refl));
       few = omega arith;
+      tells = inl (lost_tells line.number);
     }
 
     repeating_turn : (place : ℕ) (line : Option PacketLine) → IsStep s.settings true (Repeat place)
-        → repeating_group log index place line ≡ group → IsTurnGroup b log group
+        → repeating_group log index place line ≡ group → IsTurnGroup true b log group
     unfolding is_choice
     repeating_turn place None valid is = nothing_added index (Repeat place) valid group within [] is (inl refl)
     repeating_turn place (Some line) valid is = record {
@@ -231,32 +280,53 @@ module _ (s : ScenarioValue) (log : List Record) (run : IsRunOfTurns true (begin
       follows = carrier_turns_follow.repeated b log index place _
           (step_follows index (Repeat place) valid group within [] _ is (inl refl));
       few = omega arith;
+      tells = inl (one_tells _);
     }
 
-    choice_turn : (step : Step) → IsStep s.settings true step → is_choice step ≡ true → choice_group log index step ≡ group
-        → IsTurnGroup b log group
+    roots_turn : (object asker : List ℕ) → IsStep s.settings true (RootSet object asker) → first_refusal log (RootSet object asker) ≡ None
+        → StepRecord index (RootSet object asker) ∷ roots_record s.settings log object asker ∷ [] ≡ group → IsTurnGroup true b log group
+    unfolding is_choice
+    roots_turn object asker valid accepted is = record {
+      turn = Steps index (RootSet object asker) [] _;
+      is = is;
+      follows = carrier_turns_follow.roots true b log index object asker _
+          (step_follows index (RootSet object asker) valid group within [] _ is (inl refl));
+      few = omega arith;
+      tells = inr (record {
+        index = index;
+        object = object;
+        asker = asker;
+        is = refl;
+        accepted = accepted;
+        salted = root_set_salted s.settings true object asker valid;
+      });
+    }
+
+    choice_turn : (step : Step) → IsStep s.settings true step → is_choice step ≡ true → first_refusal log step ≡ None
+        → choice_group s.settings log index step ≡ group → IsTurnGroup true b log group
     unfolding choice_group
-    choice_turn (Lose place) valid choice is = losing_turn place (slice_get (lines_under_way log) place) valid is
-    choice_turn (Repeat place) valid choice is = repeating_turn place (slice_get (lines_under_way log) place) valid is
-    choice_turn step valid choice is =
+    choice_turn (RootSet object asker) valid choice accepted is = roots_turn object asker valid accepted is
+    choice_turn (Lose place) valid choice accepted is = losing_turn place (slice_get (lines_under_way log) place) valid is
+    choice_turn (Repeat place) valid choice accepted is = repeating_turn place (slice_get (lines_under_way log) place) valid is
+    choice_turn step valid choice accepted is =
         nothing_added index step valid group within [] is (choice_says index step valid group within (is_choice step) choice)
 
-    accepted_turn : (step : Step) (choice : Bool) → IsStep s.settings true step → is_choice step ≡ choice
-        → accepted_group choice s.settings log index step ≡ group → IsTurnGroup b log group
-    accepted_turn step true valid choice is = choice_turn step valid choice is
-    accepted_turn step false valid choice is = acted_turn index step valid group within choice is
+    accepted_turn : (step : Step) (choice : Bool) → IsStep s.settings true step → is_choice step ≡ choice → first_refusal log step ≡ None
+        → accepted_group choice s.settings log index step ≡ group → IsTurnGroup true b log group
+    accepted_turn step true valid choice accepted is = choice_turn step valid choice accepted is
+    accepted_turn step false valid choice accepted is = acted_turn index step valid group within choice is
 
     begun_turn : (step : Step) (refusal : Option Refusal) → IsStep s.settings true step → first_refusal log step ≡ refusal
-        → group_unless s.settings log index step refusal ≡ group → IsTurnGroup b log group
+        → group_unless s.settings log index step refusal ≡ group → IsTurnGroup true b log group
     begun_turn step (Some refusal) valid refused is =
         nothing_added index step valid group within (Refused index refusal ∷ []) is
         (refused_says index step valid group within (is_choice step) refusal refl refused)
-    begun_turn step None valid refused is = accepted_turn step (is_choice step) valid refl is
+    begun_turn step None valid refused is = accepted_turn step (is_choice step) valid refl refused is
 
   -- ---- what comes next
 
   pub turn_of_group : (group : List Record) → All (IsStep s.settings true) s.steps → CarriedComesNext s log group
-      → sent_count (log ++ group) ≤ most → IsTurnGroup b log group
+      → sent_count (log ++ group) ≤ most → IsTurnGroup true b log group
   turn_of_group group valid comes within =
       elim (carried_coming s log group comes) [
         | inl arrives ↦
@@ -267,6 +337,7 @@ module _ (s : ScenarioValue) (log : List Record) (run : IsRunOfTurns true (begin
           is = ticks.is;
           follows = carrier_turns_follow.ticks b log (awaiting log);
           few = packets_counted log (awaiting log);
+          tells = inl (packets_tell log (awaiting log));
         }
         | inr (inr begins) ↦
             let step = begins.step in

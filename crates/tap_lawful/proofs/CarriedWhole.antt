@@ -22,13 +22,13 @@ use Rattle.tap_carried.proofs.TurnsKept.{IsKept}
 use Rattle.tap_lawful.proofs.CarriedTurns.{IsTurnGroup}
 
 -- a turn that may follow is one
-pub is_turn : (b : Beginning) (log : List Record) (turn : Turn) → IsKept true log → TurnFollows true b log turn → IsTurn true turn
-is_turn b log (Steps index step items added) kept follows =
+pub is_turn : (c : Bool) (b : Beginning) (log : List Record) (turn : Turn) → IsKept c log → TurnFollows c b log turn → IsTurn c turn
+is_turn c b log (Steps index step items added) kept follows =
     (step_plain b.settings (reduced log) (system_of (reduced log)) kept.reduced_begun kept.uncarried index step items follows.0.0.may, follows.1)
-is_turn b log (Takes packet frame items added) kept follows =
+is_turn c b log (Takes packet frame items added) kept follows =
     (taken_plain b.settings (reduced log) (system_of (reduced log)) kept.reduced_begun kept.uncarried frame items follows.0.may, follows.1)
-is_turn b log (Arrives packet added) kept follows = (tt, follows.1)
-is_turn b log (Ticks added) kept follows = (tt, follows.1)
+is_turn c b log (Arrives packet added) kept follows = (tt, follows.1)
+is_turn c b log (Ticks added) kept follows = (tt, follows.1)
 
 -- ---- a log has ended only if its reduced log has
 
@@ -61,15 +61,18 @@ going_on log going = by_ended (is_ended log) refl
 
 -- ---- a whole group
 
--- this is one whole group of the log, and doesn't end it
-pub record IsCarriedWhole (log group : List Record) : Type 0 where
+-- this is one whole group of the log, carried or not, and doesn't end it
+pub record IsWholeTurn (c : Bool) (log group : List Record) : Type 0 where
   pub first : Record
   pub after : List Record
   pub is : group ≡ first ∷ after
-  pub begins : begins_group true first ≡ true
-  pub alone : All (λ item. begins_group true item ≡ false) after
+  pub begins : begins_group c first ≡ true
+  pub alone : All (λ item. begins_group c item ≡ false) after
   pub whole : IsGroup log first after
   pub going : is_ended (first ∷ after) ≡ false
+
+abbrev pub IsCarriedWhole : List Record → List Record → Type 0
+IsCarriedWhole log group = IsWholeTurn true log group
 
 same_tail : {X : Type 0} (x y : X) (xs ys : List X) → x ∷ xs ≡ y ∷ ys → xs ≡ ys
 same_tail x y xs ys is = cc
@@ -80,16 +83,16 @@ pub after_alone : (log group : List Record) (first : Record) (items : List Recor
 after_alone log group first items w is =
     subst (All (λ item. begins_group true item ≡ false)) (sym (same_tail first w.first items w.after (is ∙ w.is))) w.alone
 
-module _ (b : Beginning) (log group : List Record) (run : IsRunOfTurns true b log) (next : IsTurnGroup b log group)
-    (longer : IsRunOfTurns true b (log ++ group)) where
-  kept : IsKept true log
-  kept = log_kept true log (runs_reduce.turns true b log run)
+module _ (c : Bool) (b : Beginning) (log group : List Record) (run : IsRunOfTurns c b log) (next : IsTurnGroup c b log group)
+    (longer : IsRunOfTurns c b (log ++ group)) where
+  kept : IsKept c log
+  kept = log_kept c log (runs_reduce.turns c b log run)
 
-  whole_with : (first : Record) (after : List Record) → group_of_turn true next.turn ≡ first ∷ after → begins_group true first ≡ true
-      → All (λ item. begins_group true item ≡ false) after → IsCarriedWhole log group
+  whole_with : (first : Record) (after : List Record) → group_of_turn c next.turn ≡ first ∷ after → begins_group c first ≡ true
+      → All (λ item. begins_group c item ≡ false) after → IsWholeTurn c log group
   whole_with first after is begins alone =
       let same : group ≡ first ∷ after = sym next.is ∙ is in
-      let going : is_ended (log ++ group) ≡ false = going_on (log ++ group) (runs_reduce.run true b (log ++ group) longer).going in
+      let going : is_ended (log ++ group) ≡ false = going_on (log ++ group) (runs_reduce.run c b (log ++ group) longer).going in
       record {
         first = first;
         after = after;
@@ -98,15 +101,15 @@ module _ (b : Beginning) (log group : List Record) (run : IsRunOfTurns true b lo
         alone = alone;
         whole = record {
           begun = kept.begun;
-          begins = ap (λ c. begins_group c first) kept.carried ∙ begins;
-          alone = λ k d within. ap (λ c. begins_group c (get_or after k d)) kept.carried ∙ alone k d within;
+          begins = ap (λ d. begins_group d first) kept.carried ∙ begins;
+          alone = λ k d within. ap (λ e. begins_group e (get_or after k d)) kept.carried ∙ alone k d within;
         };
         going = sym (is_ended-append log first after) ∙ ap (λ g. is_ended (log ++ g)) (sym same) ∙ going;
       }
 
-  pub whole_carried : IsCarriedWhole log group
-  whole_carried =
-      elim (turn_group true next.turn (is_turn b log next.turn kept next.follows)) [
+  pub whole_turn : IsWholeTurn c log group
+  whole_turn =
+      elim (turn_group c next.turn (is_turn c b log next.turn kept next.follows)) [
         | inl g ↦ whole_with g.first g.after g.is g.begins g.alone
         | inr g ↦ whole_with g.first g.after g.is g.begins g.alone
       ]

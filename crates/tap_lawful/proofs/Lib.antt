@@ -17,5 +17,7 @@ pub mod CarriedRunMoves
 pub mod CarriedGrowth
 mod CarriedAlike
 mod SameGroups
+pub mod Uncarried
+pub mod UncarriedLogs
 pub mod CarriedOneLog
 pub mod Runs

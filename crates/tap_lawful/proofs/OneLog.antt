@@ -7,22 +7,22 @@ use Rattle.tap_log.specs.declared.record.Record.TheVariants.{Finished, Spent}
 use Rattle.tap_log.specs.Counts.{sent_count}
 use Rattle.tap_runs.specs.Beginning.{begin_record}
 use Rattle.tap_lawful.specs.Next.{beginning_in, next_group}
-use Rattle.tap_lawful.specs.Lawful.{IsLogOf, IsOver, IsPlayed, IsWholeLogOf, step_alone}
+use Rattle.tap_lawful.specs.Lawful.{IsLogWith, IsOverWith, IsPlayedWith, IsWholeLogWith, NextGroup, step_alone}
 use Rattle.tap_lawful.specs.PlayedLaws.{BeginsWith, OneLog}
 use Rattle.tap_lawful.proofs.Played.{sent_no_fewer}
 use Rattle.tap_lawful.proofs.SameGroups.{Compared, GoesOn, begins_with, logs_compared}
 
-module _ (s : ScenarioValue) where
+module _ (coming : NextGroup) (s : ScenarioValue) where
   abbrev GoesAfter : List Record → List Record → Type 0
-  GoesAfter = GoesOn (next_group s)
+  GoesAfter = GoesOn coming
 
-  played_compared : (one other : List Record) → IsPlayed s one → IsPlayed s other → Compared (next_group s) one other
+  played_compared : (one other : List Record) → IsPlayedWith coming s one → IsPlayedWith coming s other → Compared coming one other
   played_compared one other played also =
-      logs_compared (next_group s) (begin_record (beginning_in s) ∷ []) one other played.begins also.begins played.going also.going
+      logs_compared coming (begin_record (beginning_in s) ∷ []) one other played.begins also.begins played.going also.going
       played.each also.each
 
   -- a run that goes on isn't over
-  not_over : (one other log : List Record) → IsPlayed s other → GoesAfter one other → IsOver s one log → ⊥
+  not_over : (one other log : List Record) → IsPlayedWith coming s other → GoesAfter one other → IsOverWith coming s one log → ⊥
   not_over one other log also on (inl finished) = let both = sym finished.none ∙ on.comes in absurd (cc)
   not_over one other log also on (inr spent) =
       let same : spent.group ≡ on.group = let both = sym spent.next ∙ on.comes in cc in
@@ -31,7 +31,7 @@ module _ (s : ScenarioValue) where
       let within : sent_count ((one ++ on.group) ++ on.later) ≤ s.frames = subst (λ l. sent_count l ≤ s.frames) on.is also.within in
       absurd (omega (arith, over, fewer, within))
 
-  same_over : (played one other : List Record) → IsOver s played one → IsOver s played other → one ≡ other
+  same_over : (played one other : List Record) → IsOverWith coming s played one → IsOverWith coming s played other → one ≡ other
   same_over played one other (inl finished) (inl also) = finished.log_is ∙ sym also.log_is
   same_over played one other (inl finished) (inr spent) = let both = sym finished.none ∙ spent.next in absurd (cc)
   same_over played one other (inr spent) (inl finished) = let both = sym finished.none ∙ spent.next in absurd (cc)
@@ -43,7 +43,7 @@ module _ (s : ScenarioValue) where
   same_begins first log same = begins_with first [] log (sym same ∙ sym (append-nil first))
 
   abbrev Ending : List Record → List Record → Type 0
-  Ending played log = (log ≡ played) ⊎ IsOver s played log
+  Ending played log = (log ≡ played) ⊎ IsOverWith coming s played log
 
   -- each log begins with what was played before its ending
   ending_after : (played log : List Record) → Ending played log → (rest : List Record) × (log ≡ played ++ rest)
@@ -62,7 +62,7 @@ module _ (s : ScenarioValue) where
   same_run played one other (inr over) (inr also) = inl (same_begins one other (same_over played one other over also))
 
   -- the log of a run that goes on in the other one begins it
-  goes_begins : (played also one other : List Record) → IsPlayed s also → GoesAfter played also → Ending played one → Ending also other
+  goes_begins : (played also one other : List Record) → IsPlayedWith coming s also → GoesAfter played also → Ending played one → Ending also other
       → BeginsWith one other
   goes_begins played also one other is_played on (inl is) ending =
       let after = ending_after also other ending in
@@ -74,21 +74,24 @@ module _ (s : ScenarioValue) where
       begins_with one (on.group ++ (on.later ++ after.0)) other all
   goes_begins played also one other is_played on (inr over) ending = absurd (not_over played also one is_played on over)
 
-  one_begins : (one other : List Record) → IsLogOf s one → IsLogOf s other → BeginsWith one other ⊎ BeginsWith other one
-  one_begins one other log also =
+  pub one_log_with : (one other : List Record) → IsLogWith coming s one → IsLogWith coming s other → BeginsWith one other ⊎ BeginsWith other one
+  one_log_with one other log also =
       elim (played_compared log.played also.played log.is_played also.is_played) [
         | inl same ↦ same_run also.played one other (subst (λ l. Ending l one) same log.ending) also.ending
         | inr (inl on) ↦ inl (goes_begins log.played also.played one other also.is_played on log.ending also.ending)
         | inr (inr on) ↦ inr (goes_begins also.played log.played other one log.is_played on also.ending log.ending)
       ]
 
-  one_whole : (one other : List Record) → IsWholeLogOf s one → IsWholeLogOf s other → one ≡ other
-  one_whole one other log also =
+  pub one_whole_with : (one other : List Record) → IsWholeLogWith coming s one → IsWholeLogWith coming s other → one ≡ other
+  one_whole_with one other log also =
       elim (played_compared log.played also.played log.is_played also.is_played) [
-        | inl same ↦ same_over also.played one other (subst (λ l. IsOver s l one) same log.over) also.over
+        | inl same ↦ same_over also.played one other (subst (λ l. IsOverWith coming s l one) same log.over) also.over
         | inr (inl on) ↦ absurd (not_over log.played also.played one also.is_played on log.over)
         | inr (inr on) ↦ absurd (not_over also.played log.played other log.is_played on also.over)
       ]
 
 pub one_log_holds : OneLog
-one_log_holds = record { first = one_begins; whole = one_whole }
+one_log_holds = record {
+  first = λ s one other log also. one_log_with (next_group s) s one other log also;
+  whole = λ s one other log also. one_whole_with (next_group s) s one other log also;
+}

@@ -1,6 +1,6 @@
 -- How the log of a run grows: group by group, and as a course.
--- Cited above: played_course, played_more, played_starts, sent_count-append, sent_no_fewer
-use Rattle.std.proofs.Common.{◌≡◌, ◌+◌, ◌≤◌, List, [], ◌∷◌, ◌++◌, length, take, refl, ap, sym, subst, ◌∙◌, arith, append-nil, append_assoc, length-append}
+-- Cited above: by_next, played_course, played_more, played_starts, sent_count-append, sent_no_fewer, starts_with
+use Rattle.std.proofs.Common.{◌≡◌, ℕ, ◌+◌, ◌≤◌, false, List, [], ◌∷◌, ◌++◌, length, take, Some, refl, ap, sym, subst, ◌∙◌, arith, append-nil, append_assoc, length-append}
 use Rattle.std.specs.Prelude.{if◌then◌else◌}
 use Rattle.std.specs.List.{filter_map}
 use Rattle.std.proofs.lemmas.List.Elements.{filter_map-append}
@@ -9,15 +9,15 @@ use Rattle.tap_log.specs.declared.record.Record.{Record}
 use Rattle.tap_log.specs.Counts.{sent_count}
 use Rattle.tap_log.specs.Kinds.{sent_number}
 use Rattle.tap_log.proofs.MoreRecords.{carried_alone}
-use Rattle.tap_history.specs.Groups.{EachGroupFrom, beginning_of, ends_log, groups_of, records_of}
+use Rattle.tap_history.specs.Groups.{EachGroup, EachGroupFrom, beginning_of, ends_log, groups_of, is_ended, records_of}
 use Rattle.tap_history.proofs.Ends.{log_in_groups_holds}
 use Rattle.tap_history.proofs.Parts.{EachGroup-push, beginning_of-group, is_ended-append, log_is_groups}
 use Rattle.tap_runs.specs.Beginning.{IsWithinLimits, begin_record}
 use Rattle.tap_runs.specs.Course.{Follows, IsCourse, system_of}
 use Rattle.tap_runs.proofs.CourseGrows.{starts_begun, starts_uncarried}
 use Rattle.tap_runs.proofs.Within.{IsWhole, whole_group}
-use Rattle.tap_lawful.specs.Next.{beginning_in}
-use Rattle.tap_lawful.specs.Lawful.{ComesNext, IsPlayed}
+use Rattle.tap_lawful.specs.Next.{beginning_in, next_group}
+use Rattle.tap_lawful.specs.Lawful.{ComesNext, IsPlayed, IsPlayedWith, NextGroup}
 use Rattle.tap_lawful.proofs.Coming.{comes_follows, comes_may}
 
 -- ---- the beginning
@@ -29,14 +29,18 @@ module _ (s : ScenarioValue) where
   no_groups : groups_of (begin_record (beginning_in s) ∷ []) ≡ []
   no_groups = log_in_groups_holds.none s.settings s.frames s.members
 
-  pub played_starts : IsPlayed s (begin_record (beginning_in s) ∷ [])
+  -- whatever comes next
+  pub starts_with : (coming : NextGroup) → IsPlayedWith coming s (begin_record (beginning_in s) ∷ [])
   unfolding ends_log sent_number
-  played_starts = record {
+  starts_with coming = record {
     begins = start_alone;
-    each = subst (EachGroupFrom (ComesNext s) (beginning_of (begin_record (beginning_in s) ∷ []))) (sym no_groups) tt;
+    each = subst (EachGroupFrom (λ before group. coming before ≡ Some group) (beginning_of (begin_record (beginning_in s) ∷ []))) (sym no_groups) tt;
     within = omega arith;
     going = refl;
   }
+
+  pub played_starts : IsPlayed s (begin_record (beginning_in s) ∷ [])
+  played_starts = starts_with (next_group s)
 
 -- ---- one more group
 
@@ -115,3 +119,27 @@ module _ (s : ScenarioValue) (P : List Record → Type 0)
   by_coming starts log played =
       subst P (log_is_groups log played.going)
       (after_groups (beginning_of log) (groups_of log) played.each (subst P (sym played.begins) starts))
+
+-- the same by whatever comes next, if no more frames are sent than may be
+module _ (coming : NextGroup) (frames : ℕ) (P : List Record → Type 0)
+    (keeps : (log group : List Record) → P log → coming log ≡ Some group → sent_count (log ++ group) ≤ frames → P (log ++ group)) where
+  abbrev Comes : List Record → List Record → Type 0
+  Comes before group = coming before ≡ Some group
+
+  after_next : (log : List Record) (groups : List (List Record)) → EachGroupFrom Comes log groups
+      → sent_count (log ++ records_of groups) ≤ frames → P log → P (log ++ records_of groups)
+  after_next log [] each within p = subst P (sym (append-nil log)) p
+  after_next log (group ∷ groups) each within p =
+      let same = append_assoc log group (records_of groups) in
+      let rest : sent_count ((log ++ group) ++ records_of groups) ≤ frames = subst (λ l. sent_count l ≤ frames) (sym same) within in
+      let fewer = sent_no_fewer (log ++ group) (records_of groups) in
+      subst P same (after_next (log ++ group) groups each.1 rest (keeps log group p each.0 (omega (arith, rest, fewer))))
+
+  -- what holds of the beginning, and is kept by each group that comes next, holds of the log
+  pub by_next : (start log : List Record) → P start → beginning_of log ≡ start → EachGroup Comes log → sent_count log ≤ frames
+      → is_ended log ≡ false → P log
+  by_next start log starts begins each within going =
+      let whole = log_is_groups log going in
+      subst P whole
+      (after_next (beginning_of log) (groups_of log) each (subst (λ l. sent_count l ≤ frames) (sym whole) within)
+      (subst P (sym begins) starts))

@@ -16,20 +16,18 @@ use Rattle.tap_runs.specs.Beginning.{Beginning, begin_record}
 use Rattle.tap_runs.proofs.CourseGrows.{starts_begun, starts_uncarried}
 use Rattle.tap_carried.specs.LogTurns.{beginning_records}
 use Rattle.tap_lawful.specs.CarriedRuns.{IsCarriedLogOf, IsCarriedScript}
-use Rattle.tap_lawful.specs.Lawful.{IsLogOf, IsOver, step_alone}
-use Rattle.tap_lawful.specs.Next.{beginning_in, begun_count}
+use Rattle.tap_lawful.specs.Lawful.{IsOverWith, IsUncarriedLogOf, NextGroup, step_alone}
+use Rattle.tap_lawful.specs.Next.{beginning_in, begun_count, uncarried_next_group}
 use Rattle.tap_lawful.specs.PlayedLaws.{BeginsAlike, BeginsWith}
 use Rattle.tap_lawful.specs.RunLaws.{RunsByCarrier, left_to_run}
-use Rattle.tap_lawful.specs.Runs.{HasNoRootSets, IsFinishedBy, IsLawful, IsLogBy, IsPlayedBy, IsSpentBy, IsStoppedBy, IsWholeLogBy, comes_next}
-use Rattle.tap_lawful.proofs.Alike.{played_alike}
-use Rattle.tap_lawful.proofs.BegunSteps.{played_all, played_steps}
+use Rattle.tap_lawful.specs.Runs.{IsFinishedBy, IsLawful, IsLogBy, IsPlayedBy, IsSpentBy, IsStoppedBy, IsWholeLogBy, comes_next}
 use Rattle.tap_lawful.proofs.CarriedAlike.{carried_alike}
 use Rattle.tap_lawful.proofs.CarriedGrowth.{carried_all, carried_more, carried_starts, carried_steps}
 use Rattle.tap_lawful.proofs.CarriedOneLog.{ending_after, one_carried_log_holds}
 use Rattle.tap_lawful.proofs.CarriedRunMoves.{carried_groups_move}
-use Rattle.tap_lawful.proofs.Less.{less_left}
-use Rattle.tap_lawful.proofs.OneLog.{one_log_holds}
-use Rattle.tap_lawful.proofs.Played.{played_more, played_starts}
+use Rattle.tap_lawful.proofs.OneLog.{one_log_with, one_whole_with}
+use Rattle.tap_lawful.proofs.Played.{starts_with}
+use Rattle.tap_lawful.proofs.UncarriedLogs.{uncarried_alike, uncarried_all, uncarried_less, uncarried_more, uncarried_steps}
 
 -- ---- how a log begins
 
@@ -73,27 +71,28 @@ alone_group log (StepRecord index step ∷ items) first alone =
     alone_push log first (StepRecord index step) (λ same. let never : StepRecord index step ≡ Carrier = same in cc) alone
 alone_group log (item ∷ items) first alone = subst (λ l. BeginsAlone l first) (sym (append-nil log)) alone
 
-over_alone : (s : ScenarioValue) (played log : List Record) (first : Record) → BeginsAlone played first → IsOver s played log
+over_alone : (coming : NextGroup) (s : ScenarioValue) (played log : List Record) (first : Record) → BeginsAlone played first
+    → IsOverWith coming s played log
     → BeginsAlone log first
-over_alone s played log first alone (inl finished) =
+over_alone coming s played log first alone (inl finished) =
     let last = Finished (length s.steps) in
     subst (λ l. BeginsAlone l first) (sym finished.log_is)
     (alone_push played first last (λ same. let never : Finished (length s.steps) ≡ Carrier = same in cc) alone)
-over_alone s played log first alone (inr spent) =
+over_alone coming s played log first alone (inr spent) =
     let group = step_alone spent.group in
     let last = Spent s.frames in
     subst (λ l. BeginsAlone l first) (append_assoc played group (last ∷ []) ∙ sym spent.log_is)
     (alone_push (played ++ group) first last (λ same. let never : Spent s.frames ≡ Carrier = same in cc)
     (alone_group played spent.group first alone))
 
-plain_begins : (s : ScenarioValue) (log : List Record) → IsLogOf s log → beginning_of log ≡ begin_record (beginning_in s) ∷ []
+plain_begins : (s : ScenarioValue) (log : List Record) → IsUncarriedLogOf s log → beginning_of log ≡ begin_record (beginning_in s) ∷ []
 plain_begins s log of =
     let first = begin_record (beginning_in s) in
     let alone : BeginsAlone of.played first =
     record { begins = of.is_played.begins; uncarried = starts_uncarried of.played first of.is_played.begins } in
     elim of.ending [
       | inl same ↦ ap beginning_of same ∙ of.is_played.begins
-      | inr over ↦ (over_alone s of.played log first alone over).begins
+      | inr over ↦ (over_alone (uncarried_next_group s) s of.played log first alone over).begins
     ]
 
 -- ---- by the carrier
@@ -101,33 +100,33 @@ plain_begins s log of =
 module _ (s : ScenarioValue) where
   starts_by : (c : Bool) → IsPlayedBy c s (beginning_records c (beginning_in s))
   starts_by true = carried_starts s
-  starts_by false = played_starts s
+  starts_by false = starts_with s (uncarried_next_group s)
 
   more_by : (c : Bool) (log group : List Record) → s.carrier ≡ c → IsScript s → IsPlayedBy c s log → comes_next c s log ≡ Some group
       → sent_count (log ++ group) ≤ s.frames → IsPlayedBy c s (log ++ group)
   more_by true log group is valid played comes within =
       carried_more s log group (record { valid = valid; carried = is }) played comes within
-  more_by false log group is valid played comes within = played_more s log group played comes within
+  more_by false log group is valid played comes within = uncarried_more s valid log group played comes within
 
   less_by : (c : Bool) (log group : List Record) → s.carrier ≡ c → IsScript s → IsPlayedBy c s log → comes_next c s log ≡ Some group
       → sent_count (log ++ group) ≤ s.frames → left_to_run c s (log ++ group) < left_to_run c s log
   less_by true log group is valid played comes within =
       carried_groups_move.falls s log group (record { valid = valid; carried = is }) played comes within
-  less_by false log group is valid played comes within = less_left s log group comes within
+  less_by false log group is valid played comes within = uncarried_less s valid log group played comes within
 
   steps_by : (c : Bool) (log : List Record) → s.carrier ≡ c → IsScript s → IsPlayedBy c s log
       → begun_steps log ≡ take (begun_count log) s.steps
   steps_by true log is valid played = carried_steps s log (record { valid = valid; carried = is }) played
-  steps_by false log is valid played = played_steps s log played
+  steps_by false log is valid played = uncarried_steps s valid log played
 
   all_by : (c : Bool) (log : List Record) → s.carrier ≡ c → IsScript s → IsPlayedBy c s log → comes_next c s log ≡ None
       → begun_steps log ≡ s.steps
   all_by true log is valid played none = carried_all s log (record { valid = valid; carried = is }) played none
-  all_by false log is valid played none = played_all s log played none
+  all_by false log is valid played none = uncarried_all s valid log played none
 
   alike_by : (c : Bool) (other : ScenarioValue) (log : List Record) → IsPlayedBy c s log → BeginsAlike s other log → IsPlayedBy c other log
   alike_by true other log played alike = carried_alike s other log played alike
-  alike_by false other log played alike = played_alike s other log played alike
+  alike_by false other log played alike = uncarried_alike s other log played alike
 
   begins_by : (c : Bool) (log : List Record) → IsLogBy c s log → beginning_of log ≡ beginning_records c (beginning_in s)
   begins_by true log of = carried_begins s log of
@@ -135,11 +134,11 @@ module _ (s : ScenarioValue) where
 
   first_by : (c : Bool) (one other : List Record) → IsLogBy c s one → IsLogBy c s other → BeginsWith one other ⊎ BeginsWith other one
   first_by true one other of also = one_carried_log_holds.first s one other of also
-  first_by false one other of also = one_log_holds.first s one other of also
+  first_by false one other of also = one_log_with (uncarried_next_group s) s one other of also
 
   whole_by : (c : Bool) (one other : List Record) → IsWholeLogBy c s one → IsWholeLogBy c s other → one ≡ other
   whole_by true one other of also = one_carried_log_holds.whole s one other of also
-  whole_by false one other of also = one_log_holds.whole s one other of also
+  whole_by false one other of also = one_whole_with (uncarried_next_group s) s one other of also
 
 pub runs_by_carrier : RunsByCarrier
 runs_by_carrier = record {
@@ -190,10 +189,9 @@ whole_log false s log whole = record { played = whole.played; is_played = whole.
 
 -- ---- lawful logs
 
-pub lawful_plain : (s : ScenarioValue) (log : List Record) → IsScript s → s.carrier ≡ false → HasNoRootSets s → IsLogOf s log → IsLawful log
-lawful_plain s log valid uncarried plays of =
-    record { script = s; valid = valid; plays = plays; run = subst (λ c. IsLogBy c s log) (sym uncarried) of }
+pub lawful_plain : (s : ScenarioValue) (log : List Record) → IsScript s → s.carrier ≡ false → IsUncarriedLogOf s log → IsLawful log
+lawful_plain s log valid uncarried of = record { script = s; valid = valid; run = subst (λ c. IsLogBy c s log) (sym uncarried) of }
 
-pub lawful_carried : (s : ScenarioValue) (log : List Record) → IsCarriedScript s → HasNoRootSets s → IsCarriedLogOf s log → IsLawful log
-lawful_carried s log script plays of =
-    record { script = s; valid = script.valid; plays = plays; run = subst (λ c. IsLogBy c s log) (sym script.carried) of }
+pub lawful_carried : (s : ScenarioValue) (log : List Record) → IsCarriedScript s → IsCarriedLogOf s log → IsLawful log
+lawful_carried s log script of =
+    record { script = s; valid = script.valid; run = subst (λ c. IsLogBy c s log) (sym script.carried) of }

@@ -5,7 +5,7 @@ use Rattle.std.specs.Prelude.{ℕ, ◌+◌, Bool, true, false, List, [], ◌∷�
 use Rattle.std.specs.Option.{option_map}
 use Rattle.tap_name.specs.Settings.{SettingsValue}
 use Rattle.tap_scenario.specs.declared.step.Step.{Step}
-use Rattle.tap_scenario.specs.declared.step.Step.TheVariants.{Lose, Repeat}
+use Rattle.tap_scenario.specs.declared.step.Step.TheVariants.{Lose, Repeat, RootSet}
 use Rattle.tap_scenario.specs.Scenario.{ScenarioValue}
 use Rattle.tap_log.specs.declared.record.Record.{Record}
 use Rattle.tap_log.specs.declared.record.Record.TheVariants.{Step as StepRecord, Refused}
@@ -19,6 +19,7 @@ use Rattle.tap_runs.specs.Group.{step_records, taken_records}
 use Rattle.tap_lawful.specs.CarriedDue.{Due, carried_due}
 use Rattle.tap_lawful.specs.CarriedDue.Due.{ArrivalDue, TickDue}
 use Rattle.tap_lawful.specs.Next.{begun_count, next_step}
+use Rattle.tap_lawful.specs.RootSets.{roots_record}
 
 -- ---- the group of a step
 
@@ -38,15 +39,16 @@ abbrev pub repeating_group : List Record → ℕ → ℕ → Option PacketLine �
 repeating_group log index place None = StepRecord index (Repeat place) ∷ []
 repeating_group log index place (Some line) = repeat_group log index place line
 
--- The group of a choice that isn't refused: the step alone, unless a packet is lost or repeated.
-unfoldable pub choice_group : List Record → ℕ → Step → List Record
-choice_group log index (Lose place) = losing_group index place (slice_get (lines_under_way log) place)
-choice_group log index (Repeat place) = repeating_group log index place (slice_get (lines_under_way log) place)
-choice_group log index step = StepRecord index step ∷ []
+-- The group of a choice that isn't refused: the step alone, unless a packet is lost or repeated, or roots are told.
+unfoldable pub choice_group : SettingsValue → List Record → ℕ → Step → List Record
+choice_group p log index (Lose place) = losing_group index place (slice_get (lines_under_way log) place)
+choice_group p log index (Repeat place) = repeating_group log index place (slice_get (lines_under_way log) place)
+choice_group p log index (RootSet object asker) = StepRecord index (RootSet object asker) ∷ roots_record p log object asker ∷ []
+choice_group p log index step = StepRecord index step ∷ []
 
 -- the group of a step that isn't refused, by whether it is a choice
 abbrev pub accepted_group : Bool → SettingsValue → List Record → ℕ → Step → List Record
-accepted_group true p log index step = choice_group log index step
+accepted_group true p log index step = choice_group p log index step
 accepted_group false p log index step = carried_step_group log index step (reduced_step_records p log index step)
 
 -- the group of a step: its refusal, if it has one

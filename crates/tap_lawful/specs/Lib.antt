@@ -1,4 +1,5 @@
 pub mod Due
+pub mod RootSets
 pub mod Next
 pub mod Lawful
 pub mod PlayedLaws
@@ -6,5 +7,6 @@ pub mod CarriedDue
 pub mod CarriedNext
 pub mod CarriedRuns
 pub mod CarriedLaws
+pub mod UncarriedLaws
 pub mod Runs
 pub mod RunLaws

@@ -7,9 +7,11 @@ use Rattle.tap_scenario.specs.declared.step.Step.{Step}
 use Rattle.tap_scenario.specs.Scenario.{ScenarioValue}
 use Rattle.tap_log.specs.declared.record.Record.{Record}
 use Rattle.tap_log.specs.Log.{begun_steps}
+use Rattle.tap_log.specs.Reduced.{reduced}
 use Rattle.tap_runs.specs.Beginning.{Beginning}
 use Rattle.tap_runs.specs.Groups.{step_group, taken_group}
 use Rattle.tap_lawful.specs.Due.{number_due}
+use Rattle.tap_lawful.specs.RootSets.{with_roots}
 
 -- with what the log of a scenario's run begins
 abbrev pub beginning_in : ScenarioValue → Beginning
@@ -32,3 +34,7 @@ group_after s log None = next_step_group s log
 
 abbrev pub next_group : ScenarioValue → List Record → Option (List Record)
 next_group s log = group_after s log (number_due log)
+
+-- The group that comes next in a run that isn't carried: what comes next after the reduced log, and the roots that it tells.
+abbrev pub uncarried_next_group : ScenarioValue → List Record → Option (List Record)
+uncarried_next_group s log = option_map (with_roots s.settings log) (next_group s (reduced log))

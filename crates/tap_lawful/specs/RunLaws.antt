@@ -4,6 +4,7 @@ use Rattle.tap_scenario.specs.Scenario.{IsScript, ScenarioValue}
 use Rattle.tap_log.specs.declared.record.Record.{Record}
 use Rattle.tap_log.specs.Counts.{sent_count}
 use Rattle.tap_log.specs.Log.{begun_steps}
+use Rattle.tap_log.specs.Reduced.{reduced}
 use Rattle.tap_carried.specs.LogTurns.{beginning_records}
 use Rattle.tap_lawful.specs.CarriedLaws.{measure_of}
 use Rattle.tap_lawful.specs.Next.{beginning_in, begun_count}
@@ -13,7 +14,7 @@ use Rattle.tap_lawful.specs.Runs.{BeginsAsScenario, IsRunLog, IsRunSoFar, IsWhol
 -- a measure of what is left of a run, carried or not
 abbrev pub left_to_run : Bool → ScenarioValue → List Record → ℕ
 left_to_run true s log = measure_of s log
-left_to_run false s log = left_of s log
+left_to_run false s log = left_of s (reduced log)
 
 -- of a run of the scenario
 abbrev pub left_in : ScenarioValue → List Record → ℕ

@@ -1,6 +1,7 @@
 ghost use Rattle.tap_lawful.specs.CarriedLaws.{CarriedGroupsMove, CarriedGrows, CarriedRunsReduce, OneCarriedLog};
 ghost use Rattle.tap_lawful.specs.PlayedLaws.{OneLog, PlayedGrows};
 ghost use Rattle.tap_lawful.specs.RunLaws.{RunsByCarrier};
+ghost use Rattle.tap_lawful.specs.UncarriedLaws.{UncarriedRunsReduce};
 
 /// The log of a run grows group by group, and each time less is left of the run. It is the course of a run. Its steps are the first
 /// ones of the scenario, numbered from 1, and all of them once no group comes next.
@@ -61,6 +62,17 @@ pub fn carried_growth_law()
 /// Rule: docs/FORMATS.md, "What comes next".
 pub fn one_carried_log_law()
     ensures { OneCarriedLog }
+{}
+
+/// The log of a run that isn't carried is one of turns that may follow, so until it is over it and its reduced log, which has no roots of salted
+/// names, agree. The reduced log is that of a run without roots, however far the run has come and however it has ended. A log without added records
+/// is its own reduced log.
+///
+/// It does nothing: its contract is the law.
+///
+/// Rule: docs/FORMATS.md, "What comes next".
+pub fn uncarried_law()
+    ensures { UncarriedRunsReduce }
 {}
 
 /// So it is by the carrier of the scenario, carried or not: the log of its run grows group by group, its steps are the scenario's first ones, it

@@ -8,5 +8,5 @@ mod law;
 
 pub use law::{
     carried_growth_law, carried_law, carried_moves_law, lawful_law, one_carried_log_law,
-    one_log_law, runs_law,
+    one_log_law, runs_law, uncarried_law,
 };

@@ -247,10 +247,15 @@ impl Ledger {
     fn has_moving_step(&self) -> bool
         ensures { result ≡ is_moving_step (last_of self.now.records) }
     {
-        match self.log.as_slice().get(self.last) {
-            Some(last) => moves_node(last),
-            None => false,
-        }
+        moves_node(self.last_record())
+    }
+
+    // The last plain record. There is one, since each log has its beginning.
+    #[inline(always)]
+    fn last_record(&self) -> &Record
+        ensures { Some result.now ≡ last_of self.now.records }
+    {
+        &self.log.as_slice()[self.last]
     }
 
     // Whether the record is quiet after the last one.
@@ -308,8 +313,7 @@ impl Ledger {
     fn accepted_by(&self, item: &Record) -> Option<Step>
         ensures { result ≡ accepted_after (last_of self.now.records) item.now }
     {
-        let last = self.log.as_slice().get(self.last)?;
-        accepted_step(last, item)
+        accepted_step(self.last_record(), item)
     }
 
     /// For how many more records there is room.
@@ -508,16 +512,7 @@ impl Ledger {
         self.frames.is_empty()
     }
 
-    /// The number of the frame at this place of the outstanding ones, from 0; `None` exactly if there are not so many.
-    ///
-    /// Rule: docs/FORMATS.md, "Groups and moments".
-    pub fn number_at(&self, place: u32) -> Option<u32>
-        ensures { result ≡ slice_get (outstanding self.now.records) place }
-    {
-        Some(self.frames.frame_at(place)?.number)
-    }
-
-    /// The bytes of the frame at this place of the outstanding ones, as the log has them; `None` exactly if there are not so many.
+    /// The bytes of the frame at this place of the outstanding ones, from 0, as the log has them; `None` exactly if there are not so many.
     ///
     /// Rule: docs/FORMATS.md, "Groups and moments".
     pub fn bytes_at(&self, place: u32) -> Option<&[u8]>

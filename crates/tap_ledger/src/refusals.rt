@@ -71,7 +71,10 @@ fn not_in_prefix(step: &Step) -> Option<Refusal>
 {
     match step {
         Step::Cast { prefix, asker, .. } => {
-            let fits = asker.as_slice().starts_with(prefix.as_slice());
+            let fits = asker
+                .digits()
+                .as_slice()
+                .starts_with(prefix.digits().as_slice());
             refused_if(!fits, Refusal::NotInPrefix)
         }
         _ => None,

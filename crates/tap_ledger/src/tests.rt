@@ -134,7 +134,6 @@ fn see_one_frame(rt: &impl Abort, ledger: &Ledger) {
     assert_eq!(rt; ledger.sent(), 2);
     assert_eq!(rt; ledger.outstanding(), 1);
     assert!(rt; !ledger.is_rest());
-    assert_eq!(rt; ledger.number_at(0), Some(1));
     assert_eq!(rt; ledger.place_of(1), Some(0));
     assert_eq!(rt; ledger.newest(), Some(0));
 }

@@ -5,20 +5,22 @@ use Rattle.std.proofs.lemmas.Bool.{false≢true}
 use Rattle.tap_scenario.specs.Scenario.{IsScript, ScenarioValue}
 use Rattle.tap_log.specs.declared.record.Record.{Record}
 use Rattle.tap_log.specs.Log.{begun_steps}
+use Rattle.tap_log.specs.Reduced.{reduced}
 use Rattle.tap_ledger.proofs.Woven.{woven_nothing}
 use Rattle.tap_ledger.specs.Woven.{woven}
 use Rattle.tap_engine.specs.Kinds.{is_finished}
 use Rattle.tap_engine.specs.World.{HasNodesOfLog, WorldValue, whole_log}
 use Rattle.tap_headline.specs.Runs.{HasHeadlineBy}
 use Rattle.tap_headline.proofs.Runs.{run_logs_end_so, run_logs_follow, run_logs_have_headline}
+use Rattle.tap_lawful.specs.Lawful.{IsLogOf}
 use Rattle.tap_lawful.specs.Next.{beginning_in}
 use Rattle.tap_lawful.specs.PlayedLaws.{left_of}
 use Rattle.tap_lawful.specs.RunLaws.{left_in, left_to_run}
-use Rattle.tap_lawful.specs.Runs.{HasNoRootSets, IsFinishedBy, IsLawful, IsLogBy, IsPlayedBy, IsRunLog}
+use Rattle.tap_lawful.specs.Runs.{IsFinishedBy, IsLawful, IsLogBy, IsPlayedBy, IsRunLog}
 use Rattle.tap_lawful.proofs.Runs.{runs_by_carrier, same_beginnings}
 use Rattle.tap_replay.specs.CarriedPlayer.{HasCarriedEnded}
 use Rattle.tap_replay.specs.Player.{GoesOnUnless, HasEnded, MayTurn, PlayerValue, TurnsAs}
-use Rattle.tap_replay.specs.Runs.{GoesOnBy, HasPlayed, IsLeftBy, RunsUnless, TurnsBy, world_of}
+use Rattle.tap_replay.specs.Runs.{GoesOnBy, HasNoRootSets, HasPlayed, IsLeftBy, RunsUnless, TurnsBy, world_of}
 use Rattle.tap_replay.specs.Turn.{turn_outcome}
 use Rattle.tap_replay.specs.declared.end.End.{End}
 use Rattle.tap_replay.specs.declared.end.End.TheVariants.{Done, NoMemory, Spent}
@@ -31,6 +33,7 @@ use Rattle.tap_replay.proofs.CarriedAlike.{carried_left_alike, carried_run_alike
 use Rattle.tap_replay.proofs.CarriedFronts.{cut_unfinished}
 use Rattle.tap_replay.proofs.CarriedLawfulness.{carried_ended_log, spent_unfinished as carried_spent}
 use Rattle.tap_replay.proofs.Lawfulness.{ended_log, spent_unfinished}
+use Rattle.tap_replay.proofs.PlainRuns.{finished_is, left_same, plain_is, plain_log_is}
 use Rattle.tap_replay.proofs.Running.{unfinished}
 
 -- ---- what a run is, whether it goes on or has ended
@@ -47,15 +50,17 @@ unremarked : (over : Option End) (s : ScenarioValue) (w : WorldValue) → IsRun 
 unremarked None s w on = on.unremarked
 unremarked (Some end) s w left = left.unremarked
 
-plain_log : (over : Option End) (s : ScenarioValue) (w : WorldValue) → IsRun false over s w → IsLogBy false s w.log
+plain_log : (over : Option End) (s : ScenarioValue) (w : WorldValue) → IsRun false over s w → IsLogOf s w.log
 plain_log None s w on = record { played = w.log; is_played = on.played; ending = inl refl }
 plain_log (Some end) s w left = ended_log s end w.log left.ended
 
 -- the whole log is that of a run
-pub log_by : (c : Bool) (over : Option End) (s : ScenarioValue) (w : WorldValue) → IsRun c over s w → IsLogBy c s (whole_log w)
-log_by true None s w on = record { played = whole_log w; is_played = on.played; ending = inl refl }
-log_by true (Some end) s w left = carried_ended_log s end (whole_log w) left.ended
-log_by false over s w run = subst (IsLogBy false s) (sym (whole_is w (unremarked over s w run))) (plain_log over s w run)
+pub log_by : (c : Bool) (over : Option End) (s : ScenarioValue) (w : WorldValue) → IsScript s → HasNoRootSets s → IsRun c over s w
+    → IsLogBy c s (whole_log w)
+log_by true None s w valid plays on = record { played = whole_log w; is_played = on.played; ending = inl refl }
+log_by true (Some end) s w valid plays left = carried_ended_log s end (whole_log w) left.ended
+log_by false over s w valid plays run =
+    subst (IsLogBy false s) (sym (whole_is w (unremarked over s w run))) (plain_log_is s valid plays w.log (plain_log over s w run))
 
 -- ---- all steps were begun, if the log says that they were run
 
@@ -71,9 +76,11 @@ finished_all s c played log is valid was finished = λ _.
     (run_logs_end_so.finished s played log valid (subst (λ b. IsPlayedBy b s played) (sym is) was)
     (subst (λ b. IsFinishedBy b s played log) (sym is) finished)).steps
 
-module _ (s : ScenarioValue) (valid : IsScript s) where
+module _ (s : ScenarioValue) (valid : IsScript s) (plays : HasNoRootSets s) where
   plain_all : (end : End) (log : List Record) → s.carrier ≡ false → HasEnded s end log → HasAll s log
-  plain_all Done log is ended = finished_all s false ended.0 log is valid ended.1 ended.2
+  plain_all Done log is ended =
+      finished_all s false ended.0 log is valid (plain_is s valid plays ended.0 ended.1).played
+      (finished_is s valid plays ended.0 log ended.1 ended.2)
   plain_all Spent log is ended = not_finished s log (spent_unfinished s ended.0 log ended.2)
   plain_all NoMemory log is ended = not_finished s log (unfinished log ended.going)
 
@@ -102,23 +109,23 @@ left_nodes false s end w left = left.nodes
 
 -- ---- a player
 
-module _ (s : ScenarioValue) (p : PlayerValue) (played : HasPlayed s p) where
+module _ (s : ScenarioValue) (valid : IsScript s) (plays : HasNoRootSets s) (p : PlayerValue) (played : HasPlayed s p) where
   pub player_log : IsRunLog s (whole_log p.world)
-  player_log = log_by s.carrier p.over s p.world played
+  player_log = log_by s.carrier p.over s p.world valid plays played
 
   -- it may turn by its scenario once more, whether its run is over or not
-  pub may_turn : IsScript s → MayTurn s (whole_log p.world)
-  may_turn valid = record {
+  pub may_turn : MayTurn s (whole_log p.world)
+  may_turn = record {
     begins = runs_by_carrier.begins s (whole_log p.world) player_log;
     steps = (run_logs_follow s (whole_log p.world) valid player_log).steps;
-    all = all_by s valid s.carrier p.over p.world refl played;
+    all = all_by s valid plays s.carrier p.over p.world refl played;
   }
 
-  pub has_headline : IsScript s → HasHeadlineBy s (whole_log p.world)
-  has_headline valid = run_logs_have_headline s (whole_log p.world) valid player_log
+  pub has_headline : HasHeadlineBy s (whole_log p.world)
+  has_headline = run_logs_have_headline s (whole_log p.world) valid player_log
 
-  pub is_lawful : IsScript s → HasNoRootSets s → IsLawful (whole_log p.world)
-  is_lawful valid plays = record { script = s; valid = valid; plays = plays; run = player_log }
+  pub is_lawful : IsLawful (whole_log p.world)
+  is_lawful = record { script = s; valid = valid; run = player_log }
 
 -- ---- the run that a player works on
 
@@ -146,7 +153,7 @@ plain_alike s other (Some end) run left is may =
     left_alike s other end run.world left
     (plain_may other run.world.log is (subst (MayTurn other) (whole_is run.world (plain_unremarked s (Some end) run left)) may))
 
-module _ (s other : ScenarioValue) (valid : IsScript s) (also : IsScript other) where
+module _ (s other : ScenarioValue) (valid : IsScript s) (plays : HasNoRootSets s) (also : IsScript other) where
   by_running : (over : Option End) (running : Running) → other.carrier ≡ s.carrier → beginning_in other ≡ beginning_in s
       → RunsUnless over s running → MayTurn other (whole_log (world_of running)) → RunsUnless over other running
   by_running over (Plain run) same begins is may = (same ∙ is.0, plain_alike s other over run is.1 (same ∙ is.0) may)
@@ -161,7 +168,7 @@ module _ (s other : ScenarioValue) (valid : IsScript s) (also : IsScript other) 
       → RunsUnless over other running
   runs_alike over running is may =
       let log = whole_log (world_of running) in
-      let of = player_log s (player_of running over) (has_played s over running is) in
+      let of = player_log s valid plays (player_of running over) (has_played s over running is) in
       let both = same_beginnings s.carrier other.carrier (beginning_in s) (beginning_in other)
       (sym (runs_by_carrier.begins s log of) ∙ may.begins) in
       by_running over running both.0 both.1 is may
@@ -186,4 +193,6 @@ module _ (s : ScenarioValue) (over : Option End) (before after : Run) (given : T
   pub plain_less : left_of s after.world.log < left_of s before.world.log → left_in s (whole_log after.world) < left_in s (whole_log before.world)
   plain_less less =
       subst (λ c. left_to_run c s (whole_log after.world) < left_to_run c s (whole_log before.world)) (sym uncarried)
-      (subst (λ l. left_of s (whole_log after.world) < left_of s l) first_is (subst (λ l. left_of s l < left_of s before.world.log) then_is less))
+      (subst (λ n. n < left_of s (reduced (whole_log before.world))) (sym (left_same s (whole_log after.world)))
+      (subst (λ n. left_of s (whole_log after.world) < n) (sym (left_same s (whole_log before.world)))
+      (subst (λ l. left_of s (whole_log after.world) < left_of s l) first_is (subst (λ l. left_of s l < left_of s before.world.log) then_is less))))

@@ -5,7 +5,7 @@ use Rattle.tap_log.specs.declared.record.Record.{Record}
 use Rattle.tap_log.specs.declared.record.Record.TheVariants.{Spent as SpentRecord}
 use Rattle.tap_engine.specs.Kinds.{is_finished}
 use Rattle.tap_lawful.specs.CarriedRuns.{IsCarriedFinished, IsCarriedLogOf, IsCarriedScript, IsCarriedSpent, IsWholeCarriedLogOf}
-use Rattle.tap_lawful.specs.Runs.{HasNoRootSets, IsLawful}
+use Rattle.tap_lawful.specs.Runs.{IsLawful}
 use Rattle.tap_lawful.proofs.CarriedOneLog.{one_carried_log_holds}
 use Rattle.tap_lawful.proofs.Runs.{lawful_carried}
 use Rattle.tap_replay.specs.CarriedPlayer.{HasCarriedEnded}
@@ -32,8 +32,8 @@ carried_ended_log s NoMemory log ended = record {
       ];
 }
 
-lawful_log : (s : ScenarioValue) (end : End) (log : List Record) → IsCarriedScript s → HasNoRootSets s → HasCarriedEnded s end log → IsLawful log
-lawful_log s end log script plays ended = lawful_carried s log script plays (carried_ended_log s end log ended)
+lawful_log : (s : ScenarioValue) (end : End) (log : List Record) → IsCarriedScript s → HasCarriedEnded s end log → IsLawful log
+lawful_log s end log script ended = lawful_carried s log script (carried_ended_log s end log ended)
 
 -- ---- how the log ends says how the run has ended
 

@@ -180,7 +180,7 @@ module _ (s : ScenarioValue) (before after : CarriedRun) (carries : CarriesRun s
   accepted_is : is_choice step ≡ true → first_refusal log step ≡ None → carried_choice (log ++ group) ≡ begun_choice step false
   accepted_is chooses accepted =
       ap (λ r. carried_choice (log ++ group_unless s.settings log index step r)) accepted
-      ∙ (rw chooses (accepted_choice log index step))
+      ∙ (rw chooses (accepted_choice s.settings log index step))
 
   pub choice_adds : is_choice step ≡ true → first_refusal log step ≡ None → IsChoiceOf (begun_by step) after.choice
       → AreTicksOf step 0 after.ticks → (given : Result (Unit {0}) Stop)

@@ -6,8 +6,9 @@ use Rattle.std.specs.Option.{option_map}
 use Rattle.std.proofs.lemmas.Bool.{false≢true}
 use Rattle.std.proofs.lemmas.List.Elements.{filter_map-append}
 use Rattle.std.proofs.lemmas.List.Sums.{fold-append}
+use Rattle.tap_name.specs.Settings.{SettingsValue}
 use Rattle.tap_scenario.specs.declared.step.Step.{Step}
-use Rattle.tap_scenario.specs.declared.step.Step.TheVariants.{Deliver, Lose, Repeat, Settle, SettleMixed, SettleNewest, Tick}
+use Rattle.tap_scenario.specs.declared.step.Step.TheVariants.{Deliver, Lose, Repeat, RootSet, Settle, SettleMixed, SettleNewest, Tick}
 use Rattle.tap_scenario.specs.Scenario.{ScenarioValue}
 use Rattle.tap_log.specs.declared.record.Record.{Record}
 use Rattle.tap_log.specs.declared.record.Record.TheVariants.{Lost, Refused, Step as StepRecord}
@@ -23,6 +24,7 @@ use Rattle.tap_lawful.specs.CarriedNext.{begun_group, carried_group_after, choic
 use Rattle.tap_lawful.specs.CarriedRuns.{CarriedComesNext, IsCarriedPlayed, IsCarriedScript}
 use Rattle.tap_lawful.specs.Due.{place_chosen}
 use Rattle.tap_lawful.specs.Next.{begun_count, next_step}
+use Rattle.tap_lawful.specs.RootSets.{roots_record}
 use Rattle.tap_lawful.proofs.CarriedChoosing.{items_same}
 use Rattle.tap_lawful.proofs.CarriedComing.{begun_head}
 use Rattle.tap_lawful.proofs.CarriedGrowth.{within_none}
@@ -115,12 +117,19 @@ module _ (log : List Record) (index : ℕ) (step : Step) where
       ap (λ st. carried_choice (log ++ StepRecord index st ∷ packet_record (copied_line log line) ∷ [])) (sym is)
       ∙ fold-append choice_after no_choice log (StepRecord index step ∷ packet_record (copied_line log line) ∷ [])
 
-pub accepted_choice : (log : List Record) (index : ℕ) (step : Step)
-    → carried_choice (log ++ choice_group log index step) ≡ begun_choice step false
+rooted : (p : SettingsValue) (log : List Record) (index : ℕ) (object asker : List ℕ)
+    → carried_choice (log ++ StepRecord index (RootSet object asker) ∷ roots_record p log object asker ∷ []) ≡ begun_choice (RootSet object asker) false
+unfolding choice_after
+rooted p log index object asker =
+    fold-append choice_after no_choice log (StepRecord index (RootSet object asker) ∷ roots_record p log object asker ∷ [])
+
+pub accepted_choice : (p : SettingsValue) (log : List Record) (index : ℕ) (step : Step)
+    → carried_choice (log ++ choice_group p log index step) ≡ begun_choice step false
 unfolding choice_group
-accepted_choice log index (Lose place) = losing log index (Lose place) (slice_get (lines_under_way log) place) place refl
-accepted_choice log index (Repeat place) = repeating log index (Repeat place) (slice_get (lines_under_way log) place) place refl
-accepted_choice log index step = alone log index step
+accepted_choice p log index (Lose place) = losing log index (Lose place) (slice_get (lines_under_way log) place) place refl
+accepted_choice p log index (Repeat place) = repeating log index (Repeat place) (slice_get (lines_under_way log) place) place refl
+accepted_choice p log index (RootSet object asker) = rooted p log index object asker
+accepted_choice p log index step = alone log index step
 
 -- ---- the group that comes next, if a step begins
 

@@ -17,7 +17,7 @@ use Rattle.tap_lawful.proofs.CarriedRunMoves.{carried_groups_move}
 use Rattle.tap_replay.specs.CarriedPlayer.{CarriedTurnsAs, IsCarriedLeft}
 use Rattle.tap_replay.specs.CarriedRun.{AddsCarried, HasGrown, IsCarriedRunOf}
 use Rattle.tap_replay.specs.CarriedTurn.{carried_outcome_by, carried_turn_outcome, unless_carried_spent}
-use Rattle.tap_replay.specs.Player.{end_of}
+use Rattle.tap_replay.specs.Player.{EndsRun, end_of}
 use Rattle.tap_replay.specs.Turn.{TurnOutcome, unless_finished}
 use Rattle.tap_replay.specs.declared.carried_run.CarriedRun.{CarriedRun}
 use Rattle.tap_replay.specs.declared.end.End.TheVariants.{Done, NoMemory, Spent}
@@ -127,6 +127,7 @@ module _ (s : ScenarioValue) (before after : CarriedRun) (of : IsCarriedRunOf s 
   pub record HasStopped (stop : Stop) : Type 0 where
     pub turns : CarriedTurnsAs s old (Over (end_of (Err stop))) new
     pub left : IsCarriedLeft s (end_of (Err stop)) after.carried.world
+    pub ends : EndsRun (Err stop)
 
   spent_stops : HasSpent s before.carried.world after.carried.world → HasStopped StopSpent
   spent_stops spent =
@@ -143,6 +144,7 @@ module _ (s : ScenarioValue) (before after : CarriedRun) (of : IsCarriedRunOf s 
           done = λ same. let wrong : Spent ≡ Done = same in absurd (cc);
           nodes = λ same. let wrong : Spent ≡ Done = same in absurd (cc);
         };
+        ends = tt;
       }
 
   lacked_stops : HasLacked s before.carried.world after.carried.world → HasStopped StopNoMemory
@@ -156,6 +158,7 @@ module _ (s : ScenarioValue) (before after : CarriedRun) (of : IsCarriedRunOf s 
       done = λ same. let wrong : NoMemory ≡ Done = same in absurd (cc);
       nodes = λ same. let wrong : NoMemory ≡ Done = same in absurd (cc);
     };
+    ends = tt;
   }
 
   pub stopped_so : (stop : Stop) → AddsCarried s before (Err stop) after → HasStopped stop

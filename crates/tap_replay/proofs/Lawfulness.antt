@@ -5,14 +5,16 @@ use Rattle.tap_log.specs.declared.record.Record.{Record}
 use Rattle.tap_log.specs.declared.record.Record.TheVariants.{Spent as SpentRecord}
 use Rattle.tap_engine.specs.Kinds.{is_finished}
 use Rattle.tap_lawful.specs.Lawful.{IsFinished, IsLogOf, IsSpent, IsWholeLogOf, step_alone}
-use Rattle.tap_lawful.specs.Runs.{HasNoRootSets, IsLawful}
+use Rattle.tap_lawful.specs.Runs.{IsLawful}
 use Rattle.tap_lawful.proofs.OneLog.{one_log_holds}
 use Rattle.tap_lawful.proofs.Runs.{lawful_plain}
 use Rattle.tap_replay.specs.LawfulRuns.{AreOneRun, RunsAreLawful}
 use Rattle.tap_replay.specs.Player.{HasEnded}
 use Rattle.tap_replay.specs.declared.end.End.{End}
 use Rattle.tap_replay.specs.declared.end.End.TheVariants.{Done, NoMemory, Spent}
+use Rattle.tap_replay.specs.Runs.{HasNoRootSets}
 use Rattle.tap_replay.proofs.Alike.{finished_so, spent_so}
+use Rattle.tap_replay.proofs.PlainRuns.{plain_log_is}
 
 whole_log : (s : ScenarioValue) (end : End) (log : List Record) → HasEnded s end log → end ≢ NoMemory → IsWholeLogOf s log
 whole_log s Done log ended short = record { played = ended.0; is_played = ended.1; over = inl ended.2 }
@@ -26,7 +28,8 @@ ended_log s NoMemory log ended = record { played = log; is_played = ended; endin
 
 lawful_log : (s : ScenarioValue) (end : End) (log : List Record) → IsScript s → s.carrier ≡ false → HasNoRootSets s → HasEnded s end log
     → IsLawful log
-lawful_log s end log valid uncarried plays ended = lawful_plain s log valid uncarried plays (ended_log s end log ended)
+lawful_log s end log valid uncarried plays ended =
+    lawful_plain s log valid uncarried (plain_log_is s valid plays log (ended_log s end log ended))
 
 -- ---- how the log ends says how the run has ended
 

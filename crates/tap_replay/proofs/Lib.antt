@@ -3,6 +3,7 @@ mod Stepping
 pub mod Running
 mod Alike
 mod Turning
+pub mod PlainRuns
 mod Lawfulness
 mod CarriedChoosing
 mod CarriedGroups

@@ -12,7 +12,7 @@ use Rattle.tap_lawful.specs.Next.{next_group}
 use Rattle.tap_lawful.specs.Lawful.{IsPlayed, step_alone}
 use Rattle.tap_lawful.specs.PlayedLaws.{left_of}
 use Rattle.tap_lawful.proofs.Less.{less_left}
-use Rattle.tap_replay.specs.Player.{IsLeft, TurnsAs, end_of}
+use Rattle.tap_replay.specs.Player.{EndsRun, IsLeft, TurnsAs, end_of}
 use Rattle.tap_replay.specs.Run.{AddsComing, AddsGroup, AddsNext, IsRunOf}
 use Rattle.tap_replay.specs.Turn.{TurnOutcome, outcome_by, turn_outcome, unless_finished, unless_spent}
 use Rattle.tap_replay.specs.declared.end.End.TheVariants.{Done, NoMemory, Spent}
@@ -123,6 +123,7 @@ module _ (s : ScenarioValue) (before after : Run) (played : IsPlayed s before.wo
   pub record HasStopped (stop : Stop) : Type 0 where
     pub turns : TurnsAs (turn_outcome s before.world.log) before.world.log (Over (end_of (Err stop))) after.world.log
     pub left : IsLeft s (end_of (Err stop)) after.world
+    pub ends : EndsRun (Err stop)
 
   by_stop : (group : List Record) → next_group s before.world.log ≡ Some group → (stop : Stop)
       → AddsGroup s group before (Err stop) after → HasStopped stop
@@ -140,6 +141,7 @@ module _ (s : ScenarioValue) (before after : Run) (played : IsPlayed s before.wo
           unremarked = spent.world.unremarked;
           nodes = λ same. let wrong : Spent ≡ Done = same in absurd (cc);
         };
+        ends = tt;
       }
   by_stop group next StopNoMemory lacked = record {
     turns = record { answer = λ other. absurd (other refl); log = λ other. absurd (other refl); memory = λ _. lacked.log };
@@ -151,6 +153,7 @@ module _ (s : ScenarioValue) (before after : Run) (played : IsPlayed s before.wo
       unremarked = lacked.world.unremarked;
       nodes = λ same. let wrong : NoMemory ≡ Done = same in absurd (cc);
     };
+    ends = tt;
   }
   by_stop group next (StopRefused refusal) never = absurd never
   by_stop group next StopEnded never = absurd never

@@ -3,10 +3,11 @@ use Rattle.std.specs.Prelude.{◌≡◌, ◌≢◌, false, List}
 use Rattle.tap_scenario.specs.Scenario.{IsScript, ScenarioValue}
 use Rattle.tap_log.specs.declared.record.Record.{Record}
 use Rattle.tap_lawful.specs.Lawful.{IsLogOf, IsWholeLogOf}
-use Rattle.tap_lawful.specs.Runs.{HasNoRootSets, IsLawful}
+use Rattle.tap_lawful.specs.Runs.{IsLawful}
 use Rattle.tap_lawful.specs.CarriedRuns.{IsCarriedLogOf, IsCarriedScript, IsWholeCarriedLogOf}
 use Rattle.tap_replay.specs.CarriedPlayer.{HasCarriedEnded}
 use Rattle.tap_replay.specs.Player.{HasEnded}
+use Rattle.tap_replay.specs.Runs.{HasNoRootSets}
 use Rattle.tap_replay.specs.declared.end.End.{End}
 use Rattle.tap_replay.specs.declared.end.End.TheVariants.{NoMemory}
 
@@ -29,7 +30,7 @@ pub record RunsAreLawful : Type 0 where
 pub record CarriedRunsAreLawful : Type 0 where
   pub log : (s : ScenarioValue) (end : End) (log : List Record) → HasCarriedEnded s end log → IsCarriedLogOf s log
   pub whole : (s : ScenarioValue) (end : End) (log : List Record) → HasCarriedEnded s end log → end ≢ NoMemory → IsWholeCarriedLogOf s log
-  pub lawful : (s : ScenarioValue) (end : End) (log : List Record) → IsCarriedScript s → HasNoRootSets s → HasCarriedEnded s end log
+  pub lawful : (s : ScenarioValue) (end : End) (log : List Record) → IsCarriedScript s → HasCarriedEnded s end log
       → IsLawful log
   pub one : (s : ScenarioValue) (end other : End) (log more : List Record) → HasCarriedEnded s end log → HasCarriedEnded s other more
       → end ≢ NoMemory → other ≢ NoMemory → AreOneRun end other log more

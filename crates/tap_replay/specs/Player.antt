@@ -8,7 +8,7 @@ use Rattle.tap_log.specs.Log.{begun_steps}
 use Rattle.tap_engine.specs.Kinds.{is_finished}
 use Rattle.tap_engine.specs.World.{HasNodesOfLog, WorldValue}
 use Rattle.tap_engine.specs.declared.stop.Stop.{Stop}
-use Rattle.tap_engine.specs.declared.stop.Stop.TheVariants.{Spent as StopSpent}
+use Rattle.tap_engine.specs.declared.stop.Stop.TheVariants.{NoMemory as StopNoMemory, Spent as StopSpent}
 use Rattle.tap_lawful.specs.Next.{beginning_in, begun_count}
 use Rattle.tap_lawful.specs.Lawful.{IsFinished, IsPlayed, IsSpent}
 use Rattle.tap_lawful.specs.Runs.{BeginsAsScenario}
@@ -59,6 +59,13 @@ pub record MayTurn (s : ScenarioValue) (log : List Record) : Type 0 where
   pub begins : BeginsAsScenario s log
   pub steps : begun_steps log ≡ take (begun_count log) s.steps
   pub all : is_finished log ≡ true → begun_steps log ≡ s.steps
+
+-- an answer with which a run ends: all steps were run, too many frames would have been sent, or memory was refused
+abbrev pub EndsRun : Result (Unit {0}) Stop → Type 0
+EndsRun (Ok done) = Unit {0}
+EndsRun (Err StopSpent) = Unit {0}
+EndsRun (Err StopNoMemory) = Unit {0}
+EndsRun (Err other) = ⊥
 
 -- how a run has ended, by the last answer of its world
 abbrev pub end_of : Result (Unit {0}) Stop → End

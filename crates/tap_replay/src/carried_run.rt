@@ -16,7 +16,7 @@ ghost use Rattle.tap_replay.specs.CarriedRun.{AddsCarried, IsCarriedRunOf};
 ghost use Rattle.tap_replay.specs.CarriedTurn.{carried_turn_outcome};
 ghost use Rattle.tap_replay.specs.Player.{over_by};
 ghost use Rattle.tap_runs.specs.Course.{is_choice};
-ghost use Rattle.tap_lawful.specs.Runs.{HasNoRootSets};
+ghost use Rattle.tap_replay.specs.Runs.{HasNoRootSets};
 
 use crate::choice::Choice;
 use crate::end::{End, Turned};

@@ -17,5 +17,5 @@ mod whole;
 pub use end::{End, Turned};
 pub use law::replay_law;
 pub use player::Player;
-pub use tap_world::World;
+pub use tap_world::{NoMemory, World};
 pub use whole::{Played, replay};

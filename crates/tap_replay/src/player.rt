@@ -2,7 +2,8 @@ ghost use Rattle.std.specs.Prelude.{◌≡◌, ◌<◌, IfOk};
 ghost use Rattle.tap_carried.specs.LogTurns.{beginning_records};
 ghost use Rattle.tap_engine.specs.World.{whole_log};
 ghost use Rattle.tap_headline.specs.Runs.{HasHeadlineBy};
-ghost use Rattle.tap_lawful.specs.Runs.{HasNoRootSets, IsLawful};
+ghost use Rattle.tap_lawful.specs.Runs.{IsLawful};
+ghost use Rattle.tap_replay.specs.Runs.{HasNoRootSets};
 ghost use Rattle.tap_lawful.specs.Next.{beginning_in};
 ghost use Rattle.tap_replay.specs.Player.{MayTurn, over_by};
 ghost use Rattle.tap_replay.specs.Runs.{HasPlayed, TakesTurn};
@@ -84,7 +85,7 @@ impl Player {
         ensures played { HasPlayed scenario.now self.new }
         ensures may { MayTurn scenario.now (whole_log self.new.world) }
 
-        // The log is that of a run of a scenario of which each step is played.
+        // The log is that of a run of a scenario.
         ensures lawful { IsLawful (whole_log self.new.world) }
 
         // At each moment of the log there is a core node, no table has a hole, each walk leads to the one root, and at rest each node that

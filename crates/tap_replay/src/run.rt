@@ -4,9 +4,9 @@ ghost use Rattle.tap_log.specs.declared.record.Record.TheVariants.{Finished};
 ghost use Rattle.tap_engine.specs.World.{HasBegun};
 ghost use Rattle.tap_lawful.specs.Next.{beginning_in, next_group};
 ghost use Rattle.tap_lawful.specs.PlayedLaws.{left_of};
-ghost use Rattle.tap_replay.specs.Player.{GoesOnUnless, IsLeft, TurnsAs, end_of, over_by};
+ghost use Rattle.tap_replay.specs.Player.{EndsRun, GoesOnUnless, IsLeft, TurnsAs, end_of, over_by};
 ghost use Rattle.tap_replay.specs.Run.{AddsNext, IsRunOf};
-ghost use Rattle.tap_lawful.specs.Runs.{HasNoRootSets};
+ghost use Rattle.tap_replay.specs.Runs.{HasNoRootSets};
 ghost use Rattle.tap_replay.specs.Turn.{turn_outcome};
 
 use crate::choice::Choice;
@@ -120,11 +120,13 @@ impl Run {
 
 // How a run has ended, by the last answer of its world.
 pub(crate) fn end_of(answer: Result<(), Stop>) -> End
+    requires { EndsRun answer }
     ensures { result ≡ end_of answer }
 {
     match answer {
         Ok(()) => End::Done,
         Err(Stop::Spent) => End::Spent,
-        Err(Stop::Refused(_) | Stop::NoMemory | Stop::Ended) => End::NoMemory,
+        Err(Stop::NoMemory) => End::NoMemory,
+        Err(Stop::Refused(_) | Stop::Ended) => unreachable!(),
     }
 }

@@ -5,7 +5,7 @@ ghost use Rattle.tap_lawful.specs.Next.{beginning_in};
 ghost use Rattle.tap_replay.specs.Player.{over_by};
 ghost use Rattle.tap_replay.specs.Runs.{RunsUnless, TurnsBy, world_of};
 ghost use Rattle.tap_lawful.specs.RunLaws.{left_in};
-ghost use Rattle.tap_lawful.specs.Runs.{HasNoRootSets};
+ghost use Rattle.tap_replay.specs.Runs.{HasNoRootSets};
 ghost use Rattle.tap_scenario.specs.Scenario.{IsScript};
 
 use crate::carried_run::CarriedRun;

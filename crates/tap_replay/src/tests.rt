@@ -5,7 +5,7 @@ ghost use Rattle.tap_name.specs.Settings.{AreWithinLimits};
 ghost use Rattle.tap_scenario.specs.Step.{IsStep, is_played};
 ghost use Rattle.tap_engine.specs.World.{whole_log};
 ghost use Rattle.tap_replay.specs.Player.{MayTurn};
-ghost use Rattle.tap_lawful.specs.Runs.{HasNoRootSets};
+ghost use Rattle.tap_replay.specs.Runs.{HasNoRootSets};
 
 use crate::end::{End, Turned};
 use crate::player::Player;

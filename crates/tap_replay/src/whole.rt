@@ -1,14 +1,15 @@
 ghost use Rattle.std.specs.Prelude.{◌≡◌, IfSome};
 ghost use Rattle.tap_engine.specs.World.{HasNodesOfLog, whole_log};
 ghost use Rattle.tap_headline.specs.Runs.{HasHeadlineBy};
-ghost use Rattle.tap_lawful.specs.Runs.{HasNoRootSets, IsLawful};
+ghost use Rattle.tap_lawful.specs.Runs.{IsLawful};
+ghost use Rattle.tap_replay.specs.Runs.{HasNoRootSets};
 ghost use Rattle.tap_replay.specs.Whole.{IsReplay};
 
 use crate::end::{End, Turned};
 use crate::player::Player;
 use std::alloc::Global;
 use tap_scenario::Scenario;
-use tap_world::World;
+use tap_world::{NoMemory, World};
 
 /// What a replay leaves: its world, and how it has ended.
 ///
@@ -39,11 +40,14 @@ pub fn replay(alloc: Global, scenario: &Scenario) -> Played
     ensures lawful { IfSome result.world (λ world. IsLawful (whole_log world)) }
     ensures headline { IfSome result.world (λ world. HasHeadlineBy scenario.now (whole_log world)) }
 {
-    let Ok(mut player) = Player::new(alloc, scenario) else {
-        return Played {
-            world: None,
-            end: End::NoMemory,
-        };
+    let mut player = match Player::new(alloc, scenario) {
+        Ok(player) => player,
+        Err(NoMemory) => {
+            return Played {
+                world: None,
+                end: End::NoMemory,
+            };
+        }
     };
     loop {
         if let Turned::Over(end) = player.turn(scenario) {

@@ -1,5 +1,5 @@
 -- What holds at each moment of a run: no table has a hole, walks lead to the root, and at rest all is core.
--- Cited above: core_names
+-- Cited above: core_names, no_hole, walks_end
 use Rattle.std.proofs.Common.{◌≡◌, inl, inr, ℕ, true, false, not, List, [], ◌∷◌, ◌++◌, take, Option, None, Some, refl, ap, sym, subst, ◌∙◌}
 use Rattle.std.specs.Prelude.{◌&&◌, ◌||◌}
 use Rattle.std.specs.Option.{option_map}

@@ -18,7 +18,7 @@ use Rattle.tap_replay.proofs.ByCarrier.{player_log}
 use Rattle.tap_replay.specs.CarriedPlayer.{CarriedTurnsAs, StaysOrIsCut}
 use Rattle.tap_replay.specs.CarriedTurn.{carried_outcome_by, carried_turn_outcome, unless_carried_spent}
 use Rattle.tap_replay.specs.Player.{PlayerValue, TurnsAs}
-use Rattle.tap_replay.specs.Runs.{GoesOnBy, HasPlayed, IsLeftBy, LeavesWorld, TakesTurn, TurnsBy}
+use Rattle.tap_replay.specs.Runs.{GoesOnBy, HasNoRootSets, HasPlayed, IsLeftBy, LeavesWorld, TakesTurn, TurnsBy}
 use Rattle.tap_replay.specs.Turn.{outcome_by, turn_outcome, unless_finished, unless_spent}
 use Rattle.tap_replay.specs.declared.end.End.{End}
 use Rattle.tap_replay.specs.declared.end.End.TheVariants.{Done, Spent, NoMemory}
@@ -32,8 +32,8 @@ is_left s p end played over =
     subst (λ o. MatchOption o (GoesOnBy s.carrier s p.world) (λ e. IsLeftBy s.carrier s e p.world)) over played
 
 -- the log of a run so far can be printed
-pub player_prints : (s : ScenarioValue) (p : PlayerValue) → IsScript s → HasPlayed s p → CanBePrinted (whole_log p.world)
-player_prints s p valid played = run_logs_are_printed.printed s (whole_log p.world) valid (player_log s p played)
+pub player_prints : (s : ScenarioValue) (p : PlayerValue) → IsScript s → HasNoRootSets s → HasPlayed s p → CanBePrinted (whole_log p.world)
+player_prints s p valid plays played = run_logs_are_printed.printed s (whole_log p.world) valid (player_log s valid plays p played)
 
 -- ---- the log only grows
 

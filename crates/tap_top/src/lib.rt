@@ -8,6 +8,7 @@
 #![tactic(auto)]
 
 mod fault_line;
+mod memory;
 mod printing;
 mod reading;
 mod running;

@@ -35,9 +35,7 @@ pub(crate) fn read_all<S: Source>(alloc: Global, source: &mut S) -> Result<Vec<u
                 if n > MOST_BYTES - bytes.len() {
                     return Err(Unread::TooLong);
                 }
-                if bytes.extend_from_slice(&piece[..n]).is_err() {
-                    return Err(Unread::NoMemory);
-                }
+                bytes.extend_from_slice(&piece[..n])?;
             }
         }
     }

@@ -21,9 +21,9 @@ use crate::printing::flush_after;
 use crate::running::{play, put_from};
 use crate::status::{Ended, Status};
 use crate::wanted::{mode_of, wanted_scenario};
-use std::alloc::Global;
+use std::alloc::{AllocError, Global};
 use tap_io::{BufferedSink, Sink, Source};
-use tap_replay::Player;
+use tap_replay::{NoMemory, Player};
 use tap_report::{Mode, Reporter, Written};
 use tap_scenario::{Fault, Scenario};
 use tap_words::{Asked, WordsRefusal, read_words};
@@ -92,11 +92,13 @@ fn run_and_print<K: Sink>(alloc: Global, scenario: &Scenario, mode: Mode, sink: 
     ensures written { HasWritten (K.state sink.old) (K.state sink.new)
         (text_of_run mode (log_of result.world) result.before) result.before result.status }
 {
-    let Ok(room) = Vec::with_capacity(alloc, TEXT_ROOM) else {
-        return end_without_run(Status::NoMemory, sink);
+    let room = match Vec::with_capacity(alloc, TEXT_ROOM) {
+        Ok(room) => room,
+        Err(AllocError) => return end_without_run(Status::NoMemory, sink),
     };
-    let Ok(mut player) = Player::new(alloc, scenario) else {
-        return end_without_run(Status::NoMemory, sink);
+    let mut player = match Player::new(alloc, scenario) {
+        Ok(player) => player,
+        Err(NoMemory) => return end_without_run(Status::NoMemory, sink),
     };
     let printed = print_run(&mut player, scenario, mode, room, sink);
     Ended {
@@ -202,7 +204,7 @@ pub fn run<S: Source, K: Sink>(
     ensures world { LeavesWorld result.before result.world }
     ensures nodes { result.before ≡ Status.Done → IfSome result.world HasNodesOfLog }
 
-    // Its log can be printed in each mode. If there is one, it is lawful: that of a run of a scenario of which each step is played.
+    // Its log can be printed in each mode. If there is one, it is lawful: that of a run of a scenario.
     ensures printable { IsPrintableLog (log_of result.world) }
     ensures lawful { (log_of result.world ≡ []) ⊎ IsLawful (log_of result.world) }
 

@@ -8,7 +8,7 @@ use crate::reading::{Unread, read_all};
 use crate::status::Status;
 use std::alloc::Global;
 use tap_io::Source;
-use tap_make::make;
+use tap_make::{NoMemory, make};
 use tap_report::Mode;
 use tap_scenario::{ReadRefusal, Scenario, read};
 use tap_words::Asked;
@@ -53,7 +53,7 @@ fn make_scenario(alloc: Global, joins: u32, seed: u64) -> Result<Scenario, Statu
 {
     match make(alloc, joins, seed) {
         Ok(scenario) => Ok(scenario),
-        Err(_) => Err(Status::NoMemory),
+        Err(NoMemory) => Err(Status::NoMemory),
     }
 }
 

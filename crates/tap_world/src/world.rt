@@ -311,7 +311,7 @@ impl World {
     ///
     /// Up to its last moment the log of plain records is the course of a run, and what stands after that is a step whose refusal isn't noted
     /// yet, or how the run has ended. What its steps start or observe is named by names of the settings. Lookups are numbered from 1, in
-    /// their order, up to 1,000,000 at most.
+    /// their order, up to 1,000,000 at most. While the world isn't stopped, its nodes are those that the log tells.
     ///
     /// Rule: docs/FORMATS.md, "The course of a run".
     pub fn log(&self) -> &Log
@@ -324,6 +324,7 @@ impl World {
         ensures numbered { IsNumbered self.now.log }
         ensures tickets { ticket_count self.now.log ≤ most_index }
         ensures headline { WorldHasHeadline self.now }
+        ensures nodes { self.now.stopped ≡ false → HasNodesOfLog self.now }
     {
         self.engine.ledger.log()
     }

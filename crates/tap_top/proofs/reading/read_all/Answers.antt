@@ -21,8 +21,8 @@ returns-then-n-len-clause-too_long g c = λ _.
       faults = got.faults ∙ so_far.faults;
     }
 
-pub returns-then-is_err-clause-no_memory : goal.returns-then-is_err-clause-no_memory
-returns-then-is_err-clause-no_memory g c = λ _.
+pub returns-in_err-extend_from_slice-in-Got-clause-no_memory : goal.returns-in_err-extend_from_slice-in-Got-clause-no_memory
+returns-in_err-extend_from_slice-in-Got-clause-no_memory g c = λ _.
     let so_far = c.loop-bytes.invariant in
     let got = c.in-Got.ensures.answer in
     let piece = take c.in-Got.n c.read.new.into in

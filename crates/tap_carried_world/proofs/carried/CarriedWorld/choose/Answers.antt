@@ -156,4 +156,4 @@ returns-in_default-step c =
     (carried_by (whole_log w) _ _ of.goes_on.played.begins) in
     subst (λ x. HasAdded s x v c.begin.new.self) (world_is w d c.args.self.now c.self.view_is)
     (plain_choice laws s w d of c.args.index c.args.step.now next c.requires.kind v c.log.ensures.within marked c.begin.new.self c.begin.ensures (sym first ∙ c.in_default.is)
-    (alone_group (whole_log w) c.args.index c.args.step.now c.in_default-step.not-Lose c.in_default-step.not-Repeat))
+    (alone_group s.settings (whole_log w) c.args.index c.args.step.now c.requires.played c.in_default-step.not-Lose c.in_default-step.not-Repeat))

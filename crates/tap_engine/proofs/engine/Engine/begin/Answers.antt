@@ -3,9 +3,11 @@ use Rattle.tap_scenario.specs.declared.step.Step.{Step}
 use Rattle.tap_scenario.specs.declared.step.Step.TheVariants.{Join}
 use Rattle.tap_history.specs.Refusals.{first_refusal}
 use Rattle.tap_history.specs.StepAsks.{join_name}
+use Rattle.tap_overlay.specs.Start.{rule_start}
 use Rattle.tap_overlay.specs.Step.{HasJoined}
-use Rattle.tap_engine.specs.Working.{HasBegunAt}
-use Rattle.tap_engine.proofs.Starting.{can_begin, has_joined_at, is_fresh}
+use Rattle.tap_engine.specs.Working.{HasBegunAt, HasBegunOf}
+use Rattle.tap_engine.proofs.Starting.{can_begin, has_begun_at, has_joined_at, is_fresh}
+use Rattle.tap_engine.proofs.Taking.{if_ok}
 use Rattle.tap_engine.proofs.engine.Engine.begin.Goals as goal
 
 -- a step that is no join has no node join
@@ -36,3 +38,17 @@ pub begin_at-requires : goal.begin_at-requires
 begin_at-requires c =
     can_begin c.args.self.now c.requires.ready c.args.step.now c.requires.accepted c.begun_by-name.result.name c.begun_by-name.result.start
     c.begun_by-name.ensures.start c.begun_by-name.ensures.named
+
+pub returns : goal.returns
+returns c =
+    let m = c.args.self.now in
+    let n = c.begin_at.new.self in
+    let name = c.begun_by-name.result.name in
+    let start = c.begun_by-name.result.start in
+    record {
+      begun = if_ok (HasBegunOf m.overlay n.overlay name (rule_start start)) (HasBegunAt m n c.args.step.now)
+          (has_begun_at m c.requires.ready c.args.step.now c.requires.accepted name start c.begun_by-name.ensures.start c.begun_by-name.ensures.named n)
+          c.begin_at.result c.begin_at.ensures.begun;
+      same = c.begin_at.ensures.same;
+      still = c.begin_at.ensures.still;
+    }

@@ -55,3 +55,7 @@ returns-in-Err-clause-run c =
     let after = c.add_next.new.self in
     subst (λ e. IsLeft s e after.world) (sym c.end_of-in-Err.ensures)
     (stopped_so s before after c.requires.run.goes_on.played c.in-Err.stop c.in-Err.ensures).left
+
+pub end_of-requires-in-Err : goal.end_of-requires-in-Err
+end_of-requires-in-Err c =
+    (stopped_so c.args.scenario.now c.args.self.now c.add_next.new.self c.requires.run.goes_on.played c.in-Err.stop c.in-Err.ensures).ends

@@ -1,0 +1,4 @@
+mod Walking
+mod Refusing
+mod Marking
+mod Asking
