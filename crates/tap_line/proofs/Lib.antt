@@ -1,0 +1,17 @@
+mod Rests
+mod Taken
+mod Plain
+mod Spelling
+mod Joins
+mod Feeds
+mod PlainLines
+mod Hexes
+mod Told
+mod Back
+mod BackTables
+mod Codes
+mod BackParts
+mod Heads
+mod BackRest
+mod ToldParts
+mod Exact

@@ -1,0 +1,7 @@
+pub mod Line
+pub mod Front
+pub mod Kind
+pub mod Fault
+pub mod Refusal
+pub mod Reading
+pub mod Laws
