@@ -1,4 +1,5 @@
 pub mod Adapter
+pub mod AllBytes
 pub mod BufferedSink
 pub mod Calls
 pub mod Faults
