@@ -1,4 +1,5 @@
 -- The log of a carried run is that of a carried run of each scenario that begins alike.
+-- Cited above: arrives_alike, begins_alike, ticks_alike
 use Rattle.std.proofs.Common.{◌≡◌, inl, inr, ℕ, ◌+◌, ◌≤◌, true, List, [], ◌∷◌, ◌++◌, take, Some, ap, sym, subst, ◌∙◌, append_assoc}
 use Rattle.std.specs.Option.{option_map}
 use Rattle.tap_scenario.specs.Scenario.{ScenarioValue}
@@ -20,17 +21,17 @@ use Rattle.tap_lawful.proofs.CarriedComing.{ArrivesDue, CarriedBegins, TicksDue,
 
 module _ (s other : ScenarioValue) (same : other.settings ≡ s.settings) where
   -- the packet that is due is the same, and so is its receiver's part
-  arrives_alike : (log group : List Record) → ArrivesDue s log group → CarriedComesNext other log group
+  pub arrives_alike : (log group : List Record) → ArrivesDue s log group → CarriedComesNext other log group
   arrives_alike log group arrives =
       let line = arrives.line in
       ap (carried_group_after other log) arrives.due
       ∙ ap (λ p. Some (arrival_group log line (reduced_taken_records p log line.frame))) same ∙ ap Some arrives.is
 
-  ticks_alike : (log group : List Record) → TicksDue log group → CarriedComesNext other log group
+  pub ticks_alike : (log group : List Record) → TicksDue log group → CarriedComesNext other log group
   ticks_alike log group ticks = ap (carried_group_after other log) ticks.due ∙ ap Some ticks.is
 
   -- so is the next step, if these are first steps of the other scenario
-  begins_alike : (log group rest : List Record) (n : ℕ) → CarriedBegins s log group
+  pub begins_alike : (log group rest : List Record) (n : ℕ) → CarriedBegins s log group
       → take n other.steps ≡ begun_steps (log ++ (group ++ rest)) → CarriedComesNext other log group
   begins_alike log group rest n begun steps =
       let index = begun_count log + 1 in

@@ -47,16 +47,16 @@ module _ (s : ScenarioValue) where
   abbrev GoesAfter : List Record → List Record → Type 0
   GoesAfter = GoesOn (carried_next_group s)
 
-  same_next : (played one other : List Record) → next played one → next played other → one ≡ other
+  pub same_next : (played one other : List Record) → next played one → next played other → one ≡ other
   same_next played one other comes also = let both = sym comes ∙ also in cc
 
-  played_compared : (one other : List Record) → IsCarriedPlayed s one → IsCarriedPlayed s other → Compared (carried_next_group s) one other
+  pub played_compared : (one other : List Record) → IsCarriedPlayed s one → IsCarriedPlayed s other → Compared (carried_next_group s) one other
   played_compared one other played also =
       logs_compared (carried_next_group s) (beginning_records true (beginning_in s)) one other played.begins also.begins played.going also.going
       played.each also.each
 
   -- a run that goes on isn't over
-  not_over : (one other log : List Record) → IsCarriedPlayed s other → GoesAfter one other → IsCarriedOver s one log → ⊥
+  pub not_over : (one other log : List Record) → IsCarriedPlayed s other → GoesAfter one other → IsCarriedOver s one log → ⊥
   not_over one other log also on (inl finished) = let both = sym finished.none ∙ on.comes in absurd (cc)
   not_over one other log also on (inr spent) =
       let same : spent.group ≡ on.group = same_next one spent.group on.group spent.next on.comes in
@@ -65,7 +65,7 @@ module _ (s : ScenarioValue) where
       let within : sent_count ((one ++ on.group) ++ on.later) ≤ s.frames = subst (λ l. sent_count l ≤ s.frames) on.is also.within in
       absurd (omega (arith, over, fewer, within))
 
-  same_over : (played one other : List Record) → IsCarriedOver s played one → IsCarriedOver s played other → one ≡ other
+  pub same_over : (played one other : List Record) → IsCarriedOver s played one → IsCarriedOver s played other → one ≡ other
   same_over played one other (inl finished) (inl also) = finished.log_is ∙ sym also.log_is
   same_over played one other (inl finished) (inr spent) = let both = sym finished.none ∙ spent.next in absurd (cc)
   same_over played one other (inr spent) (inl finished) = let both = sym finished.none ∙ spent.next in absurd (cc)
@@ -137,7 +137,7 @@ module _ (s : ScenarioValue) where
         begins_with one more other
         (rest.1 ∙ ap (λ l. played ++ l) parts ∙ sym (append_assoc played (take cut.kept on.group) more) ∙ ap (λ l. l ++ more) (sym first))
 
-  one_begins : (one other : List Record) → IsCarriedLogOf s one → IsCarriedLogOf s other → BeginsWith one other ⊎ BeginsWith other one
+  pub one_begins : (one other : List Record) → IsCarriedLogOf s one → IsCarriedLogOf s other → BeginsWith one other ⊎ BeginsWith other one
   one_begins one other log also =
       elim (played_compared log.played also.played log.is_played also.is_played) [
         | inl same ↦ same_run also.played one other (subst (λ l. Ending l one) same log.ending) also.ending
@@ -145,7 +145,7 @@ module _ (s : ScenarioValue) where
         | inr (inr on) ↦ inr (goes_begins also.played log.played other one log.is_played on log.ending also.ending)
       ]
 
-  one_whole : (one other : List Record) → IsWholeCarriedLogOf s one → IsWholeCarriedLogOf s other → one ≡ other
+  pub one_whole : (one other : List Record) → IsWholeCarriedLogOf s one → IsWholeCarriedLogOf s other → one ≡ other
   one_whole one other log also =
       elim (played_compared log.played also.played log.is_played also.is_played) [
         | inl same ↦ same_over also.played one other (subst (λ l. IsCarriedOver s l one) same log.over) also.over

@@ -15,8 +15,8 @@ mod CarriedTicks
 pub mod CarriedReduction
 pub mod CarriedRunMoves
 pub mod CarriedGrowth
-mod CarriedAlike
-mod SameGroups
+pub mod CarriedAlike
+pub mod SameGroups
 pub mod Uncarried
 pub mod UncarriedLogs
 pub mod CarriedOneLog

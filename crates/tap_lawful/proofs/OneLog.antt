@@ -16,13 +16,13 @@ module _ (coming : NextGroup) (s : ScenarioValue) where
   abbrev GoesAfter : List Record → List Record → Type 0
   GoesAfter = GoesOn coming
 
-  played_compared : (one other : List Record) → IsPlayedWith coming s one → IsPlayedWith coming s other → Compared coming one other
+  pub played_compared : (one other : List Record) → IsPlayedWith coming s one → IsPlayedWith coming s other → Compared coming one other
   played_compared one other played also =
       logs_compared coming (begin_record (beginning_in s) ∷ []) one other played.begins also.begins played.going also.going
       played.each also.each
 
   -- a run that goes on isn't over
-  not_over : (one other log : List Record) → IsPlayedWith coming s other → GoesAfter one other → IsOverWith coming s one log → ⊥
+  pub not_over : (one other log : List Record) → IsPlayedWith coming s other → GoesAfter one other → IsOverWith coming s one log → ⊥
   not_over one other log also on (inl finished) = let both = sym finished.none ∙ on.comes in absurd (cc)
   not_over one other log also on (inr spent) =
       let same : spent.group ≡ on.group = let both = sym spent.next ∙ on.comes in cc in
@@ -31,7 +31,7 @@ module _ (coming : NextGroup) (s : ScenarioValue) where
       let within : sent_count ((one ++ on.group) ++ on.later) ≤ s.frames = subst (λ l. sent_count l ≤ s.frames) on.is also.within in
       absurd (omega (arith, over, fewer, within))
 
-  same_over : (played one other : List Record) → IsOverWith coming s played one → IsOverWith coming s played other → one ≡ other
+  pub same_over : (played one other : List Record) → IsOverWith coming s played one → IsOverWith coming s played other → one ≡ other
   same_over played one other (inl finished) (inl also) = finished.log_is ∙ sym also.log_is
   same_over played one other (inl finished) (inr spent) = let both = sym finished.none ∙ spent.next in absurd (cc)
   same_over played one other (inr spent) (inl finished) = let both = sym finished.none ∙ spent.next in absurd (cc)
@@ -42,11 +42,11 @@ module _ (coming : NextGroup) (s : ScenarioValue) where
   same_begins : (first log : List Record) → first ≡ log → BeginsWith first log
   same_begins first log same = begins_with first [] log (sym same ∙ sym (append-nil first))
 
-  abbrev Ending : List Record → List Record → Type 0
+  abbrev pub Ending : List Record → List Record → Type 0
   Ending played log = (log ≡ played) ⊎ IsOverWith coming s played log
 
   -- each log begins with what was played before its ending
-  ending_after : (played log : List Record) → Ending played log → (rest : List Record) × (log ≡ played ++ rest)
+  pub ending_after : (played log : List Record) → Ending played log → (rest : List Record) × (log ≡ played ++ rest)
   ending_after played log (inl is) = ([], is ∙ sym (append-nil played))
   ending_after played log (inr (inl finished)) = (Finished (length s.steps) ∷ [], finished.log_is)
   ending_after played log (inr (inr spent)) = (step_alone spent.group ++ Spent s.frames ∷ [], spent.log_is)

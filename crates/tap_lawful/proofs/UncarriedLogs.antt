@@ -68,7 +68,7 @@ module _ (s : ScenarioValue) (valid : IsScript s) (log group : List Record) (pla
 pub same_steps : (log : List Record) → begun_steps (reduced log) ≡ begun_steps log
 same_steps log = reduced_tells step_of kept_steps log
 
-none_back : (s : ScenarioValue) (log : List Record) (next : Option (List Record)) → option_map (with_roots s.settings log) next ≡ None → next ≡ None
+pub none_back : (s : ScenarioValue) (log : List Record) (next : Option (List Record)) → option_map (with_roots s.settings log) next ≡ None → next ≡ None
 none_back s log None is = refl
 none_back s log (Some group) is = absurd (cc)
 
@@ -86,7 +86,7 @@ module _ (s : ScenarioValue) (valid : IsScript s) (log : List Record) (played : 
 -- ---- another scenario that begins alike
 
 module _ (s other : ScenarioValue) (same : other.settings ≡ s.settings) where
-  one_alike : (log group rest : List Record) (n : ℕ) → UncarriedComesNext s log group
+  pub one_alike : (log group rest : List Record) (n : ℕ) → UncarriedComesNext s log group
       → take n other.steps ≡ begun_steps (log ++ (group ++ rest)) → UncarriedComesNext other log group
   one_alike log group rest n comes steps =
       let next = uncarried_coming s log group comes in
@@ -140,7 +140,7 @@ alone_kept limit (StepRecord index step ∷ items) = refl
 alone_kept limit (item ∷ items) = refl
 
 -- and roots change nothing of it
-alone_same : (p : SettingsValue) (log group : List Record) → step_alone (with_roots p log group) ≡ step_alone group
+pub alone_same : (p : SettingsValue) (log group : List Record) → step_alone (with_roots p log group) ≡ step_alone group
 unfolding step_alone told_after
 alone_same p log [] = refl
 alone_same p log (StepRecord index step ∷ items) = refl
