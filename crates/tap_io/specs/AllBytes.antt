@@ -1,7 +1,7 @@
 -- What was read of a source up to its end, or until a limit, of which the state was `old` and is `new`.
 use Rattle.std.specs.Prelude.{◌≡◌, ◌≤◌, ℕ, ◌+◌, List, length}
 use Rattle.std.specs.Io.KnownBytes.{Consumes, IsAtEnd}
-use Rattle.tap_io.specs.Faults.{HasRisen}
+use Rattle.tap_io.specs.Faults.{counted}
 use Rattle.tap_io.specs.Source.{SourceState}
 
 -- Of the source no more bytes were read than so many.
@@ -10,10 +10,10 @@ pub record HasReadAtMost (most : ℕ) (old new : SourceState) : Type 0 where
   pub within : length bytes ≤ most
   pub consumes : Consumes old.left new.left bytes
 
--- No more bytes of the source were read than so many, and then a read failed.
+-- No more bytes of the source were read than so many, and then one read failed.
 pub record HasReadUntilFault (most : ℕ) (old new : SourceState) : Type 0 where
   pub read : HasReadAtMost most old new
-  pub risen : HasRisen old.faults new.faults
+  pub counted : new.faults ≡ counted old.faults
 
 -- No more bytes of the source were read than so many. No read failed.
 pub record HasReadWithoutFault (most : ℕ) (old new : SourceState) : Type 0 where

@@ -1,7 +1,7 @@
 -- What contracts see of a source, and what a read does to it and to the buffer that it reads `into`.
 use Rattle.std.specs.Prelude.{◌≡◌, ◌≤◌, ℕ, List, Option, length, take}
 use Rattle.std.specs.Io.KnownBytes.{Consumes, Keeps, IsAtEnd}
-use Rattle.tap_io.specs.Faults.{Fails, counted}
+use Rattle.tap_io.specs.Faults.{counted}
 use Rattle.tap_io.specs.declared.source.Got.{Got}
 use Rattle.tap_io.specs.declared.source.Got.TheVariants.{Got as GotBytes, End, Failed}
 
@@ -23,11 +23,16 @@ pub record Ends (old new : SourceState) : Type 0 where
   pub at_end : IsAtEnd new.left
   pub faults : new.faults ≡ old.faults
 
+-- the bytes are as they were, if they are told, and one fault was counted
+pub record FailsToRead (old new : SourceState) : Type 0 where
+  pub kept : Keeps old.left new.left
+  pub counted : new.faults ≡ counted old.faults
+
 -- what each answer says
 abbrev pub ReadsAs : SourceState → SourceState → List ℕ → Got → Type 0
 ReadsAs old new into (GotBytes n) = Gives old new into n
 ReadsAs old new into End = Ends old new
-ReadsAs old new into Failed = Fails old.left new.left old.faults new.faults
+ReadsAs old new into Failed = FailsToRead old new
 
 -- The count of faults doesn't fall, and the answer says what else came about.
 pub record Reads (old new : SourceState) (into : List ℕ) (got : Got) : Type 0 where

@@ -28,8 +28,8 @@ pub trait Source {
     /// which isn't empty.
     ///
     /// If the source tells its bytes, those that come are the next ones, and the answer is `End`
-    /// exactly if none are left and the call doesn't fail. A read fails only if the count of
-    /// faults rises in this call, and then the bytes stay; else that count stays. What the buffer holds
+    /// exactly if none are left and the call doesn't fail. A read that fails adds one to the count of
+    /// faults, and then the bytes stay; else that count stays. What the buffer holds
     /// after the bytes that came is left open.
     fn read(&mut self, into: &mut [u8]) -> Got
         requires { 0 < length into.old }
