@@ -1,7 +1,6 @@
 -- made scenarios are within the limits of scenarios
 -- Cited above: made_well
-use Rattle.std.proofs.Common.{◌≡◌, ℕ, zero, suc, ◌+◌, ◌*◌, ◌^◌, ◌<◌, ◌≤◌, false, min, List, [], ◌∷◌, ◌++◌, map, length, get_or, All, flat_map, refl, ap, sym, subst, ◌∙◌, arith, length-append, mul-suc}
-use Rattle.std.specs.Prelude.{IsTrue}
+use Rattle.std.proofs.Common.{◌≡◌, ℕ, zero, suc, ◌+◌, ◌*◌, ◌^◌, ◌<◌, ◌≤◌, false, min, List, [], ◌∷◌, ◌++◌, map, length, get_or, All, flat_map, ap, sym, subst, ◌∙◌, arith, length-append, mul-suc}
 use Rattle.std.specs.List.{range_with_len}
 use Rattle.std.proofs.lemmas.List.Elements.{All-append, All-cons, All-map, All-nil}
 use Rattle.std.proofs.lemmas.List.FromFn.{length-map-range_with_len, length-range_with_len}
@@ -9,8 +8,8 @@ use Rattle.tap_name.specs.Name.{IsName}
 use Rattle.tap_name.specs.Settings.{SettingsValue}
 use Rattle.tap_scenario.specs.declared.step.Step.{Step}
 use Rattle.tap_scenario.specs.declared.step.Step.TheVariants.{Depart, Find, Join, Publish, Settle, SettleMixed, Walk}
-use Rattle.tap_scenario.specs.Scenario.{CanBePlayed, IsScript, ScenarioValue}
-use Rattle.tap_scenario.specs.Step.{IsStep, is_played}
+use Rattle.tap_scenario.specs.Scenario.{IsScript, ScenarioValue}
+use Rattle.tap_scenario.specs.Step.{IsStep}
 use Rattle.tap_scenario.proofs.StepTexts.{step_of_text-text}
 use Rattle.tap_make.specs.WellMade.{IsWellMade}
 use Rattle.tap_make.specs.Made.{made, made_settings}
@@ -103,16 +102,6 @@ steps_fit joins seed few =
     each_step (IsStep made_settings false) tt mixed_fits (λ n p. named n p) (λ n p m q. (named n p, named m q))
     (λ n p m q. (named n p, named m q)) (λ n p m q. (named n p, named m q)) (λ n p m q. (named n p, named m q)) joins seed few
 
--- and one of a kind that a run takes
-steps_played : (joins seed : ℕ) → joins ≤ 100 → All (λ step. IsTrue (is_played step)) (made_steps joins seed)
-unfolding is_played
-steps_played joins seed few =
-    each_step (λ step. IsTrue (is_played step)) refl (λ wave within. refl) (λ n p. refl) (λ n p m q. refl) (λ n p m q. refl)
-    (λ n p m q. refl) (λ n p m q. refl) joins seed few
-
-can_be_played : (joins seed : ℕ) → joins ≤ 100 → CanBePlayed (made joins seed)
-can_be_played joins seed few = record { steps = steps_played joins seed few }
-
 -- ---- there are few steps
 
 length_of_wave : (joins seed wave : ℕ) → length (made_wave joins seed wave) ≤ 10
@@ -181,7 +170,6 @@ made_well joins seed few = record {
   script = made_script joins seed few;
   read_back = λ k d within. step_of_text-text made_settings false (get_or (made_steps joins seed) k d) (omega arith)
       (steps_fit joins seed few k d within);
-  played = can_be_played joins seed few;
   nodes = distinct_nodes joins seed few;
   objects = distinct_objects joins seed;
 }

@@ -1,11 +1,9 @@
 -- what is read is within its limits
-use Rattle.std.proofs.Common.{◌≡◌, ◌&&◌, ℕ, suc, ◌+◌, ◌≤◌, nat_le, Bool, IsTrue, pos, negsuc, arith, List, [], ◌∷◌, ◌++◌, length, length-append, All, None, Some, Result, Ok, Err, refl, ap, inl, inr}
-use Rattle.std.specs.List.{list_all}
+use Rattle.std.proofs.Common.{◌≡◌, ◌&&◌, ℕ, suc, ◌+◌, ◌≤◌, nat_le, Bool, pos, negsuc, arith, List, [], ◌∷◌, ◌++◌, length, length-append, All, None, Some, Result, Ok, Err, refl, ap, inl, inr}
 use Rattle.std.specs.Option.{option_and_then, is_some}
 use Rattle.std.proofs.lemmas.Bool.{cases_Bool, and_parts, leb-true}
 use Rattle.std.proofs.lemmas.Bool.Decides.{nat_tests}
 use Rattle.std.proofs.lemmas.List.Elements.{All-nil, All-cons, All-append}
-use Rattle.std.proofs.lemmas.List.Sums.{AllPass-from_list_all}
 use Rattle.toml.specs.Data.{Data, string, integer, float, boolean, datetime, array, table, Members as Table}
 use Rattle.tap_name.specs.Settings.{SettingsValue, AreWithinLimits}
 use Rattle.tap_name.specs.Name.{IsName}
@@ -17,10 +15,10 @@ use Rattle.tap_scenario.specs.declared.fault.Fault.TheVariants.{BadValue, BadSte
 use Rattle.tap_scenario.specs.declared.step.Step.{Step}
 use Rattle.tap_scenario.specs.Document.{read_at, settings_of_table, default_frames, frames_of_table, members_of_table, steps_with, numbered_steps, steps_from, steps_of_table}
 use Rattle.tap_scenario.specs.Key.{value_at}
-use Rattle.tap_scenario.specs.Scenario.{CanBePlayed, IsScript, most_frames, most_members, most_steps}
+use Rattle.tap_scenario.specs.Scenario.{IsScript, most_frames, most_members, most_steps}
 use Rattle.tap_scenario.specs.Spelling.{name_in}
 use Rattle.tap_scenario.specs.Spread.{steps_of_text}
-use Rattle.tap_scenario.specs.Step.{IsStep, is_played}
+use Rattle.tap_scenario.specs.Step.{IsStep}
 use Rattle.tap_scenario.specs.Fault.{◌>>=◌}
 use Rattle.tap_scenario.specs.Value.{whole_number, array_of_strings, strings_up_to, names_of_texts, distinct_names, members_of_texts}
 use Rattle.tap_name.proofs.Membership.{are_distinct-Decides}
@@ -130,41 +128,30 @@ members_of_table-limits p t names small e =
     let texts = then-Ok (read_at Members array_of_strings t) _ names e in
     members_of_texts-limits p texts.0 names small (ok_or-Ok _ (BadValue Members) names texts.2)
 
--- a step of these settings that a run takes
-record IsRunning (p : SettingsValue) (carrier : Bool) (step : Step) : Type 0 where
-  is_step : IsStep p carrier step
-  runs : IsTrue (is_played step)
-
--- at most as many steps as a scenario may have, each of them such a step
-record AreRunning (p : SettingsValue) (carrier : Bool) (steps : List Step) : Type 0 where
+-- no more steps than a scenario may have, each of them one of these settings
+record AreFewSteps (p : SettingsValue) (carrier : Bool) (steps : List Step) : Type 0 where
   few : length steps ≤ most_steps
-  each : All (IsRunning p carrier) steps
+  each : All (IsStep p carrier) steps
 
-steps_with-back : (p : SettingsValue) (carrier : Bool) (before steps all : List Step) → All (IsRunning p carrier) before
-    → All (IsStep p carrier) steps → steps_with before steps ≡ Some all → AreRunning p carrier all
-steps_with-back p carrier before steps all running are e =
-    elim (cases_Bool (list_all is_played steps && nat_le (length before + length steps) most_steps)) [
+steps_with-back : (p : SettingsValue) (carrier : Bool) (before steps all : List Step) → All (IsStep p carrier) before
+    → All (IsStep p carrier) steps → steps_with before steps ≡ Some all → AreFewSteps p carrier all
+steps_with-back p carrier before steps all first are e =
+    elim (cases_Bool (nat_le (length before + length steps) most_steps)) [
       | inr other ↦ absurd (let none : None ≡ Some all = rw other at e in cc)
-      | inl both ↦
-          let tests = and_parts (list_all is_played steps) (nat_le (length before + length steps) most_steps) both in
-          let few = leb-true (length before + length steps) most_steps tests.1 in
-          let runs = AllPass-from_list_all is_played steps tests.0 in
-          let whole : Some (before ++ steps) ≡ Some all = rw both at e in
+      | inl within ↦
+          let few = leb-true (length before + length steps) most_steps within in
+          let whole : Some (before ++ steps) ≡ Some all = rw within at e in
           let same : before ++ steps ≡ all = cc in
-          rw (← same) (record {
-            few = omega (arith, length-append before steps);
-            each =
-                All-append (IsRunning p carrier) before steps running (λ k d h. record { is_step = are k d h; runs = runs k d h });
-          })
+          rw (← same) (record { few = omega (arith, length-append before steps); each = All-append (IsStep p carrier) before steps first are })
     ]
 
 numbered_steps-Ok : (p : SettingsValue) (carrier : Bool) (number : ℕ) (before : List Step) (text : List ℕ) (all : List Step)
-    → p.base ≤ 16 → All (IsRunning p carrier) before → numbered_steps p carrier number before text ≡ Ok all → AreRunning p carrier all
+    → p.base ≤ 16 → All (IsStep p carrier) before → numbered_steps p carrier number before text ≡ Ok all → AreFewSteps p carrier all
 unfolding numbered_steps
-numbered_steps-Ok p carrier number before text all small running e =
+numbered_steps-Ok p carrier number before text all small first e =
     let told = ok_or-Ok (option_and_then (steps_with before) (steps_of_text p carrier text)) (BadStep number) all e in
     let read = and_then-back (steps_with before) (steps_of_text p carrier text) all told in
-    steps_with-back p carrier before read.0 all running (steps_of_text-IsStep p carrier text read.0 small read.1) read.2
+    steps_with-back p carrier before read.0 all first (steps_of_text-IsStep p carrier text read.0 small read.1) read.2
 
 -- the steps of a string more
 pub steps_from-more : (p : SettingsValue) (carrier : Bool) (number : ℕ) (before : List Step) (text : List ℕ) (others : List (List ℕ))
@@ -173,7 +160,7 @@ pub steps_from-more : (p : SettingsValue) (carrier : Bool) (number : ℕ) (befor
 steps_from-more p carrier number before text others after e = rw e refl
 
 steps_from-limits : (p : SettingsValue) (carrier : Bool) (number : ℕ) (before : List Step) (texts : List (List ℕ)) (steps : List Step)
-    → p.base ≤ 16 → AreRunning p carrier before → steps_from p carrier number before texts ≡ Ok steps → AreRunning p carrier steps
+    → p.base ≤ 16 → AreFewSteps p carrier before → steps_from p carrier number before texts ≡ Ok steps → AreFewSteps p carrier steps
 steps_from-limits p carrier number before [] steps small are e = let same : before ≡ steps = cc in rw (← same) are
 steps_from-limits p carrier number before (text ∷ others) steps small are e =
     let read = then-Ok (numbered_steps p carrier number before text) (λ more. steps_from p carrier (number + 1) more others) steps e in
@@ -181,10 +168,10 @@ steps_from-limits p carrier number before (text ∷ others) steps small are e =
     (numbered_steps-Ok p carrier number before text read.0 small are.each read.1) read.2
 
 steps_of_table-limits : (p : SettingsValue) (carrier : Bool) (t : Table) (steps : List Step) → p.base ≤ 16
-    → steps_of_table p carrier t ≡ Ok steps → AreRunning p carrier steps
+    → steps_of_table p carrier t ≡ Ok steps → AreFewSteps p carrier steps
 steps_of_table-limits p carrier t steps small e =
     let texts = then-Ok (read_at Steps (strings_up_to most_steps) t) _ steps e in
-    let none : AreRunning p carrier [] = record { few = omega arith; each = All-nil (IsRunning p carrier) } in
+    let none : AreFewSteps p carrier [] = record { few = omega arith; each = All-nil (IsStep p carrier) } in
     steps_from-limits p carrier 1 [] texts.0 steps small none texts.2
 
 -- the parts that a table gives are a script's
@@ -206,14 +193,5 @@ IsScript-parts t p frames carrier members steps is_p is_frames is_members is_ste
       members = names.are_names;
       distinct = names.distinct;
       steps_to = read.few;
-      steps = λ k d h. (read.each k d h).is_step;
+      steps = read.each;
     }
-
--- a run takes a scenario of the parts that a table gives
-pub CanBePlayed-parts : (t : Table) (p : SettingsValue) (frames : ℕ) (carrier : Bool) (members : List (List ℕ)) (steps : List Step)
-    → settings_of_table t ≡ Ok p → steps_of_table p carrier t ≡ Ok steps
-    → CanBePlayed (record { settings = p; frames = frames; carrier = carrier; members = members; steps = steps })
-CanBePlayed-parts t p frames carrier members steps is_p is_steps =
-    let settings = settings_of_table-limits t p is_p in
-    let read = steps_of_table-limits p carrier t steps settings.base_to is_steps in
-    record { steps = λ k d h. (read.each k d h).runs }

@@ -1,6 +1,5 @@
 -- the scenario that a text is, over the TOML table that it writes
-use Rattle.std.specs.Prelude.{ℕ, ◌+◌, nat_le, Bool, false, ◌&&◌, List, [], ◌∷◌, ◌++◌, length, Option, None, Some, is_some, ok_or, option_and_then, Result, Ok, Err, if◌then◌else◌}
-use Rattle.std.specs.List.{list_all}
+use Rattle.std.specs.Prelude.{ℕ, ◌+◌, nat_le, Bool, false, List, [], ◌∷◌, ◌++◌, length, Option, None, Some, is_some, ok_or, option_and_then, Result, Ok, Err, if◌then◌else◌}
 use Rattle.std.specs.Str.{is_utf8}
 use Rattle.toml.specs.Data.{Data, Members as Table}
 use Rattle.toml.specs.Parse.{parse_document}
@@ -13,7 +12,6 @@ use Rattle.tap_scenario.specs.declared.step.Step.{Step}
 use Rattle.tap_scenario.specs.Key.{value_at, wrong_key}
 use Rattle.tap_scenario.specs.Scenario.{ScenarioValue, most_frames, most_steps}
 use Rattle.tap_scenario.specs.Spread.{steps_of_text}
-use Rattle.tap_scenario.specs.Step.{is_played}
 use Rattle.tap_scenario.specs.Fault.{◌>>=◌}
 use Rattle.tap_scenario.specs.Value.{whole_number, carrier_of, array_of_strings, strings_up_to, members_of_texts}
 
@@ -46,10 +44,10 @@ carrier_of_table table = if is_some (value_at Carrier table) then read_at Carrie
 abbrev pub members_of_table : SettingsValue → Table → Result (List (List ℕ)) Fault
 members_of_table p table = read_at Members array_of_strings table >>= (λ texts. ok_or (members_of_texts p texts) (BadValue Members))
 
--- these steps and then those of a string, if a run takes each of them and a scenario may have so many
+-- these steps and then those of a string, if a scenario may have so many
 abbrev pub steps_with : List Step → List Step → Option (List Step)
 steps_with before steps =
-    if list_all is_played steps && nat_le (length before + length steps) most_steps then Some (before ++ steps) else None
+    if nat_le (length before + length steps) most_steps then Some (before ++ steps) else None
 
 -- the steps so far and those of the string of this number, in a scenario that is carried or not
 unfoldable pub numbered_steps : SettingsValue → Bool → ℕ → List Step → List ℕ → Result (List Step) Fault

@@ -1,10 +1,10 @@
 -- what a scenario is
-use Rattle.std.specs.Prelude.{ℕ, ◌≤◌, nat_le, Bool, IsTrue, if◌then◌else◌, List, length, All}
+use Rattle.std.specs.Prelude.{ℕ, ◌≤◌, nat_le, Bool, if◌then◌else◌, List, length, All}
 use Rattle.tap_name.specs.Settings.{SettingsValue, AreWithinLimits}
 use Rattle.tap_name.specs.Name.{IsName}
 use Rattle.tap_name.specs.Names.{AreDistinct}
 use Rattle.tap_scenario.specs.declared.step.Step.{Step}
-use Rattle.tap_scenario.specs.Step.{IsStep, is_played}
+use Rattle.tap_scenario.specs.Step.{IsStep}
 
 -- the settings, how many frames may be sent, whether packets carry them, the members at the start, and the steps
 pub record ScenarioValue : Type 0 where
@@ -37,7 +37,3 @@ pub record IsScript (s : ScenarioValue) : Type 0 where
   pub distinct : AreDistinct s.members
   pub steps_to : length s.steps ≤ most_steps
   pub steps : All (IsStep s.settings s.carrier) s.steps
-
--- a run takes it: a run takes each of its steps
-pub record CanBePlayed (s : ScenarioValue) : Type 0 where
-  pub steps : All (λ step. IsTrue (is_played step)) s.steps

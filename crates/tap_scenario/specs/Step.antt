@@ -194,7 +194,7 @@ step_of_words p carrier (word ∷ others) =
 abbrev pub step_of_text : SettingsValue → Bool → List ℕ → Option Step
 step_of_text p carrier text = step_of_words p carrier (words text)
 
--- a run takes each kind of step but root sets
-unfoldable pub is_played : Step → Bool
-is_played (RootSet object asker) = false
-is_played other = true
+-- the step asks for no roots
+unfoldable pub asks_no_roots : Step → Bool
+asks_no_roots (RootSet object asker) = false
+asks_no_roots other = true

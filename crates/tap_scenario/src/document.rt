@@ -1,13 +1,11 @@
 ghost use Rattle.std.specs.Prelude.{◌≡◌, ◌≤◌, length, IsTrue, IfOk, OnOk, MatchResult, Ok, Err};
-ghost use Rattle.std.specs.List.{list_all};
 ghost use Rattle.std.specs.Option.{ok_or};
 ghost use Rattle.toml.specs.Parse.{parse_document};
 ghost use Rattle.toml.specs.View.{table_view, items_view};
 ghost use Rattle.tap_scenario.specs.Document.{read_at, settings_of_table, frames_of_table, carrier_of_table, members_of_table, steps_with, numbered_steps, steps_of_table, script_of, scenario_of_table, scenario_of};
 ghost use Rattle.tap_scenario.specs.Key.{missing_key, is_known, has_known_keys, wrong_key};
-ghost use Rattle.tap_scenario.specs.Scenario.{CanBePlayed, IsScript};
+ghost use Rattle.tap_scenario.specs.Scenario.{IsScript};
 ghost use Rattle.tap_scenario.specs.ReadRefusal.{AnswersUnlessMemory, TellsFault};
-ghost use Rattle.tap_scenario.specs.Step.{is_played};
 ghost use Rattle.tap_scenario.specs.Value.{whole_number, array_of_strings, strings_up_to, are_strings, names_of_texts, texts_of};
 
 use crate::fault::{Fault, Key, ReadRefusal};
@@ -200,21 +198,14 @@ fn read_members(
     Ok(names)
 }
 
-// Whether a run takes each of these steps.
-fn are_played(steps: &[Step]) -> bool
-    ensures { result ≡ list_all is_played steps.now }
-{
-    steps.iter().all(|step| step.is_played())
-}
-
-// Adds the steps of the string of this number, if a run takes each of them and a scenario may have so many.
+// Adds the steps of the string of this number, if a scenario may have so many.
 fn add_steps(number: u32, steps: &mut Vec<Step>, more: &[Step]) -> Result<(), ReadRefusal>
     requires { length steps.now.items ≤ MOST_STEPS }
     ensures value { let read = ok_or (steps_with steps.old.items more.now) (Fault.BadStep number)
         in MatchResult result (λ _. read ≡ Ok steps.new.items) (TellsFault read) }
     ensures few { OnOk result (length steps.new.items ≤ MOST_STEPS) }
 {
-    if !are_played(more) || steps.len() + more.len() > MOST_STEPS {
+    if steps.len() + more.len() > MOST_STEPS {
         return Err(ReadRefusal::Fault(Fault::BadStep(number)));
     }
     steps.extend_from_slice(more)?;
@@ -273,7 +264,6 @@ fn read_steps(
 fn read_table(alloc: Global, table: &Table) -> Result<Scenario, ReadRefusal>
     ensures value { AnswersUnlessMemory (scenario_of_table (table_view table.now)) result }
     ensures valid { IfOk result IsScript }
-    ensures runs { IfOk result CanBePlayed }
 {
     if let Some(key) = wrong_key(table) {
         return Err(ReadRefusal::Fault(Fault::BadKey(key)));
@@ -313,7 +303,6 @@ fn read_toml(alloc: Global, text: &str) -> Result<Table, ReadRefusal>
 pub fn read(alloc: Global, bytes: &[u8]) -> Result<Scenario, ReadRefusal>
     ensures value { AnswersUnlessMemory (scenario_of bytes.now) result }
     ensures valid { IfOk result IsScript }
-    ensures runs { IfOk result CanBePlayed }
 {
     let text = match std::str::from_utf8(bytes) {
         Ok(text) => text,

@@ -1,7 +1,7 @@
 ghost use Rattle.std.specs.Prelude.{◌≡◌, ◌↔◌, ◌^◌, Some, option_map};
 ghost use Rattle.tap_scenario.specs.declared.step.Step.TheVariants.{Cut};
 ghost use Rattle.tap_scenario.specs.Kind.{link_of_pair};
-ghost use Rattle.tap_scenario.specs.Step.{IsStep, one_name, two_names, one_number, two_numbers, step_of_name, step_of_pair, step_of_place, settle_of_words, garble_of_words, cast_of_words, step_of_words, step_of_text, text_of_step, is_played};
+ghost use Rattle.tap_scenario.specs.Step.{IsStep, one_name, two_names, one_number, two_numbers, step_of_name, step_of_pair, step_of_place, settle_of_words, garble_of_words, cast_of_words, step_of_words, step_of_text, text_of_step};
 
 use crate::cast::{Prefix, Word};
 use crate::kind::{FROM, Kind, MIXED, NEWEST, NameKind, PairKind, PlaceKind, TO};
@@ -135,21 +135,6 @@ pub enum Step {
         /// The node, whose own name begins with the prefix.
         asker: Name,
     },
-}
-
-impl Step {
-    /// Whether a run takes steps of this kind: all but root sets.
-    ///
-    /// Rule: docs/FORMATS.md, "The scenario".
-    #[tactic(auto, unfolding(crate::specs::Step::is_played))]
-    pub fn is_played(&self) -> bool
-        ensures { result ≡ is_played self.now }
-    {
-        match self {
-            Step::RootSet { .. } => false,
-            _ => true,
-        }
-    }
 }
 
 // The step of the words after `settle`.

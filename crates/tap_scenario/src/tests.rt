@@ -499,18 +499,6 @@ fn reads_packets(rt: HostRuntime) -> Result<(), Fail> {
 }
 
 #[test]
-fn tells_what_runs(rt: HostRuntime) -> Result<(), Fail> {
-    let (_, object, asker) = named()?;
-    assert_eq!(rt; Step::Walk { object, asker }.is_played(), true);
-    assert_eq!(rt; Step::Find { object, asker }.is_played(), true);
-    assert_eq!(rt; Step::SettleMixed { seed: 1 }.is_played(), true);
-    assert_eq!(rt; Step::Cut { place: 0, bytes: 3 }.is_played(), true);
-    assert_eq!(rt; Step::Tick.is_played(), true);
-    assert_eq!(rt; Step::RootSet { object, asker }.is_played(), false);
-    Ok(())
-}
-
-#[test]
 fn reads_root_sets(rt: HostRuntime) -> Result<(), Fail> {
     let settings = Settings::new(16, 40, 2).ok_or("settings")?;
     let object = read_name(&settings, b"da39a3ee5e6b4b0d3255bfef95601890afd80709").map_err(
@@ -530,17 +518,13 @@ fn reads_root_sets(rt: HostRuntime) -> Result<(), Fail> {
     Ok(())
 }
 
-// No run takes a root set, so no scenario has one.
 #[test]
-fn refuses_root_sets(rt: HostRuntime) -> Result<(), Fail> {
+fn reads_a_scenario_with_a_root_set(rt: HostRuntime) -> Result<(), Fail> {
     let name = "da39a3ee5e6b4b0d3255bfef95601890afd80709";
     let text = format!(in rt.alloc();
         "base = 16\ndigits = 40\nwidth = 2\nmembers = [\"{name}\"]\nsteps = [\"rootset {name} from {name}\"]\n"
     )?;
-    assert_eq!(rt;
-        counts(rt.alloc(), text.as_str()),
-        Err(ReadRefusal::Fault(Fault::BadStep(1)))
-    );
+    assert_eq!(rt; counts(rt.alloc(), text.as_str()), Ok((100_000, 1, 1)));
     Ok(())
 }
 

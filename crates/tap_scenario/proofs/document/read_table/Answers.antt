@@ -1,7 +1,6 @@
-use Rattle.std.proofs.Common.{subst, sym}
+use Rattle.std.proofs.Common.{sym}
 use Rattle.toml.specs.View.{table_view}
-use Rattle.tap_scenario.specs.Scenario.{CanBePlayed}
-use Rattle.tap_scenario.proofs.Scripts.{CanBePlayed-parts, IsScript-parts}
+use Rattle.tap_scenario.proofs.Scripts.{IsScript-parts}
 use Rattle.tap_scenario.proofs.document.read_table.Goals as goal
 
 pub from_lists-requires : goal.from_lists-requires
@@ -10,9 +9,3 @@ from_lists-requires c =
     c.in_ok-members.members c.in_ok-steps.steps
     (sym c.in_ok-settings.ensures) (sym c.in_ok-frames.ensures)
     c.in_ok-members.ensures c.in_ok-steps.ensures
-
-pub returns-clause-runs : goal.returns-clause-runs
-returns-clause-runs c =
-    subst CanBePlayed (sym c.from_lists.ensures)
-    (CanBePlayed-parts (table_view c.args.table.now) c.in_ok-settings.settings c.in_ok-frames.frames c.in_ok-carrier.carrier
-    c.in_ok-members.members c.in_ok-steps.steps (sym c.in_ok-settings.ensures) c.in_ok-steps.ensures)
