@@ -4,7 +4,7 @@ use Rattle.std.proofs.Common.{◌≡◌, ◌≢◌, ℕ, ◌+◌, nat_le, nat_lt
 use Rattle.std.specs.Prelude.{IsTrue, not, if◌then◌else◌}
 use Rattle.std.proofs.lemmas.List.{length-map}
 use Rattle.tap_name.specs.Settings.{SettingsValue}
-use Rattle.tap_scenario.specs.Step.{is_played}
+use Rattle.tap_scenario.specs.Step.{asks_no_roots}
 use Rattle.tap_scenario.specs.declared.step.Step.{Step}
 use Rattle.tap_scenario.specs.declared.step.Step.TheVariants.{Deliver, Lose, Repeat, Settle, SettleMixed, SettleNewest, Tick}
 use Rattle.tap_log.specs.declared.record.Record.{Record}
@@ -171,9 +171,9 @@ module _ (log : List Record) (count resent : ℕ) (are : AreCounted log count re
   mixed_refusal seed = of_mixed log seed ∙ placeless (SettleMixed seed) refl ∙ no_more (SettleMixed seed) refl
 
   -- a settle
-  pub settles : (step : Step) → is_choice step ≡ true → IsTrue (is_played step) → ((place : ℕ) → step ≢ Deliver place) → step ≢ Tick
+  pub settles : (step : Step) → is_choice step ≡ true → IsTrue (asks_no_roots step) → ((place : ℕ) → step ≢ Deliver place) → step ≢ Tick
       → ((place : ℕ) → step ≢ Lose place) → ((place : ℕ) → step ≢ Repeat place) → None ≡ first_refusal log step
-  unfolding is_choice is_played
+  unfolding is_choice asks_no_roots
   settles (Deliver place) choice played no_deliver no_tick no_lose no_repeat = absurd (no_deliver place refl)
   settles Settle choice played no_deliver no_tick no_lose no_repeat = sym settle_refusal
   settles SettleNewest choice played no_deliver no_tick no_lose no_repeat = sym newest_refusal

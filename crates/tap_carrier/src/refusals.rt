@@ -5,7 +5,7 @@ ghost use Rattle.tap_log.specs.declared.record.Refusal.TheVariants.{NoSuchFlight
 ghost use Rattle.tap_log.specs.Kinds.{is_carried};
 ghost use Rattle.tap_history.specs.Refusals.{first_refusal, refused_if};
 ghost use Rattle.tap_runs.specs.Course.{is_choice};
-ghost use Rattle.tap_scenario.specs.Step.{is_played};
+ghost use Rattle.tap_scenario.specs.Step.{asks_no_roots};
 ghost use Rattle.tap_carrier.specs.Kept.{KeepsLog};
 
 use crate::carrier::Carrier;
@@ -24,7 +24,7 @@ impl Carrier {
     #[tactic(auto, unfolding(tap_runs::specs::Course::is_choice, tap_history::specs::StepAsks::flight_place))]
     pub fn refusal(&self, step: &Step) -> Option<Refusal>
         requires choice { is_choice step.now ≡ true }
-        requires played { IsTrue (is_played step.now) }
+        requires played { IsTrue (asks_no_roots step.now) }
         ensures { (p : SettingsValue) (log : List Record) → KeepsLog p log self.now → is_carried log ≡ true →
             result ≡ first_refusal log step.now }
     {
