@@ -113,19 +113,24 @@ def program_of(given):
 
 def play(program, text, words=()):
     """The exit status of the program and what it prints for a scenario."""
+    given = text if isinstance(text, bytes) else text.encode("utf-8")
     try:
-        done = subprocess.run([program, *words], input=text.encode("utf-8"), stdout=subprocess.PIPE, timeout=SECONDS, check=False)
+        done = subprocess.run([program, *words], input=given, stdout=subprocess.PIPE, timeout=SECONDS, check=False)
     except subprocess.TimeoutExpired:
         raise Wrong(f"the program hasn't ended after {SECONDS} seconds") from None
     return done.returncode, done.stdout.decode("utf-8", "replace")
 
 
-def contents(path):
-    """The text of a file; of standard input if the path is '-'."""
+def raw_contents(path):
+    """The bytes of a file; of standard input if the path is '-'."""
     if path == "-":
-        return sys.stdin.buffer.read().decode("utf-8")
-    with open(path, encoding="utf-8", newline="") as file:
+        return sys.stdin.buffer.read()
+    with open(path, "rb") as file:
         return file.read()
+
+
+def contents(path):
+    return raw_contents(path).decode("utf-8")
 
 
 def count(number, noun):
@@ -143,12 +148,12 @@ def write_out(path, text):
 
 def log_of(path, program):
     """The log of a file, which is the long text of a run, or a scenario that the program is run on."""
-    text = contents(path)
+    text = raw_contents(path)
     if not text.strip():
         raise Wrong(f"{path}: the text is empty", 1)
-    if not text.startswith(("begin ", "tapestry: ")):
-        _, text = play(program_of(program), text)
-    return Log(text, path)
+    if not text.startswith((b"begin ", b"tapestry: ")):
+        return Log(play(program_of(program), text)[1], path)
+    return Log(text.decode("utf-8"), path)
 
 
 # ---- scenarios
