@@ -7,6 +7,7 @@ moments", has them, and a `Course` says of each moment who joins, is core, leave
 """
 import argparse
 import os
+import re
 import subprocess
 import sys
 import time
@@ -31,6 +32,12 @@ NAMES = "NGASO"
 KINDS = ["seek", "tell", "hello", "heard", "ack", "done", "release", "link", "lay", "find", "answer", "leave", "left", "gone", "forget", "cast",
          "castack"]
 STARTS = ["join", "abandon", "publish", "withdraw", "find", "leave", "cast"]
+# Where docs/PROTOCOL.md speaks of each kind of step.
+STEP_HEADINGS = {"join": "The start of a join", "abandon": "Giving a join up", "publish": "Publication and withdrawal",
+                 "withdraw": "Publication and withdrawal", "find": "Find", "leave": "The start of a departure", "cast": "Cast", "walk": "Walks",
+                 "root": "Roots", "table": "Slots and tables", "pointers": "Pointers", "rootset": "Salted names", "scatter": "Salted names",
+                 "gather": "Salted names", "findall": "Salted names", "tick": "Packets", "lose": "Packets",
+                 "repeat": "Packets", "garble": "Refused frames", "cut": "Refused frames"}
 STATUSES = ["joining", "core", "leaving", "ceased", "gone"]
 # Each record of a log: how many words its line has at least.
 RECORDS = {
@@ -98,6 +105,28 @@ class Progress:
     def end(self):
         if self.is_shown:
             print("\x1b[K", end="\r", file=sys.stderr, flush=True)
+
+
+# ---- the pages
+
+
+def table_of_page(page, beginning):
+    """The rows of the table of a page of docs/ whose head begins so, as lists of cells."""
+    text = contents(os.path.join(TOP, "docs", page))
+    if beginning not in text:
+        raise Wrong(f"docs/{page} has no table that begins with '{beginning}'")
+    table = text.split(beginning, 1)[1].split("\n\n", 1)[0]
+    return [[cell.strip() for cell in row.strip("|").split("|")] for row in table.split("\n")[2:]]
+
+
+def section_of(heading):
+    """The text below a heading of docs/PROTOCOL.md, without tables and pictures, a line for each paragraph; nothing if there is none."""
+    for section in re.split(r"\n#+ ", "\n" + contents(os.path.join(TOP, "docs", "PROTOCOL.md"))):
+        title, _, text = section.partition("\n")
+        if title == heading:
+            paragraphs = [part for part in text.strip().split("\n\n") if not part.startswith(("|", "!["))]
+            return "\n\n".join(re.sub(r"\s*\n\s*(?![-*|\d])", " ", part) for part in paragraphs)
+    return ""
 
 
 # ---- the program
