@@ -46,6 +46,9 @@ RECORDS = {
     "ticked": 1, "rootset": 9, "cast": 7, "reached": 3, "closed": 2, "spent": 2, "done": 2,
 }
 
+# The word of a line that is a number, in records that aren't read further here.
+NUMBERS = {"walked": -1, "table": 4, "link": 1, "pointers": 3, "asked": 1, "answered": 1, "garbled": 1, "cast": 1, "reached": 1, "closed": 1, "spent": 1}
+
 
 class Wrong(Exception):
     """What is wrong, in a line, and the exit status that comes of it."""
@@ -337,9 +340,11 @@ class Log:
             self.members.append(words[1])
         elif kind == "carrier" and group.number == 0:
             self.carried = True
-        elif kind not in RECORDS or len(words) < RECORDS[kind]:
+        elif kind not in RECORDS or len(words) < RECORDS[kind] or not words[NUMBERS.get(kind, 0)].isdigit() == (kind in NUMBERS):
             raise ValueError
         elif kind == "step":
+            if form_of(" ".join(words[2:])) is None:
+                raise ValueError
             self.add_group("step", int(words[1]), " ".join(words[2:]))
         elif kind in ("done", "spent"):
             self.ending = words
@@ -355,6 +360,8 @@ class Log:
         elif kind == "taken":
             group = self.groups[-1] if self.carried else self.add_group("frame")
             group.frame = self.frames[int(words[1])]
+            if group.frame.taken is not None:
+                raise ValueError
             group.frame.taken = group
         else:
             group = self.groups[-1]
@@ -364,6 +371,8 @@ class Log:
             self.keep(kind, words, group)
 
     def arrive(self, packet):
+        if packet.ended is not None:
+            raise ValueError
         group = self.add_group("packet")
         group.packet, packet.ended = packet, group
         packet.again = not packet.ack and packet.frame.taken is not None
@@ -371,13 +380,17 @@ class Log:
     def keep(self, kind, words, group):
         """Keeps a record that is a frame, a packet or a refusal."""
         if kind == "sent":
-            if int(words[1]) != len(self.frames):
+            if int(words[1]) != len(self.frames) or words[2] not in KINDS or bytes.fromhex(words[5])[:1] not in (b"\1", b"\2"):
                 raise ValueError
             self.frames.append(Frame(int(words[1]), words[2], words[3], words[4], words[5], group))
         elif kind == "packet":
+            if int(words[1]) != len(self.packets):
+                raise ValueError
             self.packets.append(Packet(int(words[1]), self.frames[int(words[3])], words[2] == "ack", group))
         elif kind == "lost":
             packet = self.packets[int(words[1])]
+            if packet.ended is not None:
+                raise ValueError
             packet.ended, packet.lost = group, True
         elif kind == "refused":
             group.refused = (int(words[2]), " ".join(words[3:]))
