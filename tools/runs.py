@@ -405,14 +405,14 @@ class Log:
 
 
 def table_of(group):
-    """The table that a group tells: the node, its status and its links, or None."""
+    """The table that a group prints: the node, its status and its links, or None."""
     for words in group.of_kind("table"):
         return words[1], words[2], [tuple(link[1:5]) for link in group.of_kind("link")]
     return None
 
 
 def pointers_of(group):
-    """The pointers that a group tells: the node and the pairs, or None."""
+    """The pointers that a group prints: the node and the pairs, or None."""
     for words in group.of_kind("pointers"):
         return words[1], [(pair[1], pair[2]) for pair in group.of_kind("pointer")]
     return None
