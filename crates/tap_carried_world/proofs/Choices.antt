@@ -4,7 +4,7 @@ use Rattle.std.specs.Prelude.{nat_le, slice_get}
 use Rattle.std.proofs.lemmas.Bool.{false≢true, leb-false}
 use Rattle.std.proofs.lemmas.List.{length-map}
 use Rattle.std.proofs.lemmas.Option.{none-some}
-use Rattle.tap_scenario.specs.Step.{is_played}
+use Rattle.tap_scenario.specs.Step.{asks_no_roots}
 use Rattle.tap_scenario.specs.declared.step.Step.{Step}
 use Rattle.tap_scenario.specs.declared.step.Step.TheVariants.{Deliver, Lose, Repeat, RootSet, Settle, SettleMixed, SettleNewest, Tick}
 use Rattle.tap_log.specs.declared.record.Record.{Record}
@@ -24,8 +24,8 @@ use Rattle.tap_carrier.proofs.Refusing.{AreCounted, lose_refusal, mixed_refusal,
 
 -- a settle is never refused
 pub refusable : (log : List Record) (step : Step) (refusal : Refusal) (count resent : ℕ) → AreCounted log count resent → is_choice step ≡ true
-    → IsTrue (is_played step) → first_refusal log step ≡ Some refusal → may_be_refused step ≡ true
-unfolding is_choice is_played may_be_refused
+    → IsTrue (asks_no_roots step) → first_refusal log step ≡ Some refusal → may_be_refused step ≡ true
+unfolding is_choice asks_no_roots may_be_refused
 refusable log (Deliver place) refusal count resent are chooses played refused = refl
 refusable log Tick refusal count resent are chooses played refused = refl
 refusable log (Lose place) refusal count resent are chooses played refused = refl

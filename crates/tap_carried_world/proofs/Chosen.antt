@@ -2,7 +2,7 @@
 use Rattle.std.proofs.Common.{◌≡◌, ◌≢◌, inr, ℕ, ◌+◌, ◌<◌, ◌≤◌, false, true, List, [], ◌∷◌, ◌++◌, length, take, None, Some, Result, Ok, Err, IsTrue, refl, ap, sym, subst, ◌∙◌, arith, append-nil, append_assoc, length-append}
 use Rattle.std.specs.Prelude.{if◌then◌else◌, slice_get}
 use Rattle.tap_scenario.specs.Scenario.{ScenarioValue}
-use Rattle.tap_scenario.specs.Step.{is_played}
+use Rattle.tap_scenario.specs.Step.{asks_no_roots}
 use Rattle.tap_scenario.specs.declared.step.Step.{Step}
 use Rattle.tap_scenario.specs.declared.step.Step.TheVariants.{Lose, Repeat}
 use Rattle.tap_log.specs.declared.record.Record.{Record}
@@ -58,7 +58,7 @@ module _ (w : WorldValue) (index : ℕ) (step : Step) (runs : w.stopped ≡ fals
 
 -- the refusal of a choice may be noted
 pub may_note : (log : List Record) (carried : is_carried log ≡ true) (w v : WorldValue) (index : ℕ) (step : Step) (refusal : Refusal)
-    → is_choice step ≡ true → IsTrue (is_played step) → first_refusal log step ≡ Some refusal → v.log ≡ w.log ++ StepRecord index step ∷ []
+    → is_choice step ≡ true → IsTrue (asks_no_roots step) → first_refusal log step ≡ Some refusal → v.log ≡ w.log ++ StepRecord index step ∷ []
     → MayNote v index refusal
 may_note log carried w v index step refusal chooses played refused log_is = record {
   step = step;

@@ -3,7 +3,7 @@ use Rattle.std.proofs.Common.{◌≡◌, ◌≢◌, ℕ, ◌<◌, false, true, L
 use Rattle.std.specs.Prelude.{IsTrue, if◌then◌else◌, slice_get}
 use Rattle.tap_name.specs.Settings.{SettingsValue}
 use Rattle.tap_scenario.specs.Scenario.{ScenarioValue}
-use Rattle.tap_scenario.specs.Step.{is_played}
+use Rattle.tap_scenario.specs.Step.{asks_no_roots}
 use Rattle.tap_scenario.specs.declared.step.Step.{Step}
 use Rattle.tap_scenario.specs.declared.step.Step.TheVariants.{Lose, Repeat, RootSet}
 use Rattle.tap_log.specs.declared.record.Record.{Record}
@@ -163,9 +163,9 @@ module _ (laws : Laws) (s : ScenarioValue) (w : WorldValue) (c : CarrierValue) (
         (subst (λ x. d ≡ record c { resending = resends x }) is begun) made
 
 -- a choice that neither loses nor repeats a packet, and asks for no roots
-pub alone_group : (p : SettingsValue) (log : List Record) (index : ℕ) (step : Step) → IsTrue (is_played step) → ((place : ℕ) → step ≢ Lose place)
+pub alone_group : (p : SettingsValue) (log : List Record) (index : ℕ) (step : Step) → IsTrue (asks_no_roots step) → ((place : ℕ) → step ≢ Lose place)
     → ((place : ℕ) → step ≢ Repeat place) → choice_group p log index step ≡ StepRecord index step ∷ []
-unfolding choice_group is_played
+unfolding choice_group asks_no_roots
 alone_group p log index (Lose place) played loses repeats = absurd (loses place refl)
 alone_group p log index (Repeat place) played loses repeats = absurd (repeats place refl)
 alone_group p log index (RootSet object asker) played loses repeats = absurd (cc)

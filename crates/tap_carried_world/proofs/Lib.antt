@@ -23,3 +23,4 @@ mod Stranded
 mod Laws
 mod Seen
 mod ChosenCalls
+mod RootSets

@@ -6,7 +6,7 @@ ghost use Rattle.tap_lawful.specs.CarriedNext.{carried_next_group};
 ghost use Rattle.tap_lawful.specs.CarriedRuns.{IsCarriedFinished};
 ghost use Rattle.tap_lawful.specs.Next.{begun_count, beginning_in};
 ghost use Rattle.tap_runs.specs.Course.{is_choice};
-ghost use Rattle.tap_scenario.specs.Step.{is_played};
+ghost use Rattle.tap_scenario.specs.Step.{asks_no_roots};
 ghost use Rattle.tap_carried_world.specs.Adds.{IsLeft};
 ghost use Rattle.tap_lawful.specs.CarriedDue.{is_stranded};
 ghost use Rattle.tap_packets.specs.Packets.{lines_under_way};
@@ -92,7 +92,7 @@ impl CarriedWorld {
     /// Rule: docs/FORMATS.md, "Refusals".
     pub fn refusal(&self, step: &Step) -> Option<Refusal>
         requires choice { is_choice step.now ≡ true }
-        requires played { IsTrue (is_played step.now) }
+        requires played { IsTrue (asks_no_roots step.now) }
         ensures { (s : ScenarioValue) → CarriesRun s self.now.world self.now.carrier →
             result ≡ first_refusal (whole_log self.now.world) step.now }
     {

@@ -3,6 +3,7 @@
 
 mod arrivals;
 mod carried;
+mod root_sets;
 mod steps;
 mod ticks;
 

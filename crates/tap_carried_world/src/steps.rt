@@ -2,7 +2,7 @@ ghost use Rattle.std.specs.Prelude.{◌≡◌, true, IsTrue};
 ghost use Rattle.tap_engine.specs.Kinds.{observes};
 ghost use Rattle.tap_history.specs.StepAsks.{is_start};
 ghost use Rattle.tap_runs.specs.Course.{is_choice};
-ghost use Rattle.tap_scenario.specs.Step.{is_played};
+ghost use Rattle.tap_scenario.specs.Step.{asks_no_roots};
 ghost use Rattle.tap_carried_world.specs.Adds.{AddsNext};
 ghost use Rattle.tap_carried_world.specs.Comes.{BeginsNext};
 ghost use Rattle.tap_carried_world.specs.Value.{CarriesRun};
@@ -79,7 +79,7 @@ impl CarriedWorld {
         requires carries { CarriesRun scenario.now self.old.world self.old.carrier }
         requires next { BeginsNext scenario.now self.old.world index step.now }
         requires kind { is_choice step.now ≡ true }
-        requires played { IsTrue (is_played step.now) }
+        requires played { IsTrue (asks_no_roots step.now) }
         ensures { AddsNext scenario.now self.old.world result self.new.world self.new.carrier }
     {
         // No effect at run time. The proof reads from this call that the log of plain records is the reduced one.
