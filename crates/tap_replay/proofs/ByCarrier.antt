@@ -1,18 +1,15 @@
 -- What a player has run and what its turns make of it, by whether the run is carried.
--- Cited above: left_nodes, may_turn, player_log, whole_is
-use Rattle.std.proofs.Common.{◌≡◌, inl, inr, ◌<◌, Bool, true, false, List, [], MatchOption, Option, None, Some, refl, ap, sym, subst, ◌∙◌}
+-- Cited above: left_nodes, may_turn, player_log
+use Rattle.std.proofs.Common.{◌≡◌, inl, inr, ◌<◌, Bool, true, false, List, MatchOption, Option, None, Some, refl, ap, sym, subst, ◌∙◌}
 use Rattle.std.proofs.lemmas.Bool.{false≢true}
 use Rattle.tap_scenario.specs.Scenario.{IsScript, ScenarioValue}
 use Rattle.tap_log.specs.declared.record.Record.{Record}
 use Rattle.tap_log.specs.Log.{begun_steps}
 use Rattle.tap_log.specs.Reduced.{reduced}
-use Rattle.tap_ledger.proofs.Woven.{woven_nothing}
-use Rattle.tap_ledger.specs.Woven.{woven}
 use Rattle.tap_engine.specs.Kinds.{is_finished}
 use Rattle.tap_engine.specs.World.{HasNodesOfLog, WorldValue, whole_log}
 use Rattle.tap_headline.specs.Runs.{HasHeadlineBy}
 use Rattle.tap_headline.proofs.Runs.{run_logs_end_so, run_logs_follow, run_logs_have_headline}
-use Rattle.tap_lawful.specs.Lawful.{IsLogOf}
 use Rattle.tap_lawful.specs.Next.{beginning_in}
 use Rattle.tap_lawful.specs.PlayedLaws.{left_of}
 use Rattle.tap_lawful.specs.RunLaws.{left_in, left_to_run}
@@ -20,7 +17,7 @@ use Rattle.tap_lawful.specs.Runs.{IsFinishedBy, IsLawful, IsLogBy, IsPlayedBy, I
 use Rattle.tap_lawful.proofs.Runs.{runs_by_carrier, same_beginnings}
 use Rattle.tap_replay.specs.CarriedPlayer.{HasCarriedEnded}
 use Rattle.tap_replay.specs.Player.{GoesOnUnless, HasEnded, MayTurn, PlayerValue, TurnsAs}
-use Rattle.tap_replay.specs.Runs.{GoesOnBy, HasNoRootSets, HasPlayed, IsLeftBy, RunsUnless, TurnsBy, world_of}
+use Rattle.tap_replay.specs.Runs.{GoesOnBy, HasPlayed, IsLeftBy, RunsUnless, TurnsBy, world_of}
 use Rattle.tap_replay.specs.Turn.{turn_outcome}
 use Rattle.tap_replay.specs.declared.end.End.{End}
 use Rattle.tap_replay.specs.declared.end.End.TheVariants.{Done, NoMemory, Spent}
@@ -33,7 +30,6 @@ use Rattle.tap_replay.proofs.CarriedAlike.{carried_left_alike, carried_run_alike
 use Rattle.tap_replay.proofs.CarriedFronts.{cut_unfinished}
 use Rattle.tap_replay.proofs.CarriedLawfulness.{carried_ended_log, spent_unfinished as carried_spent}
 use Rattle.tap_replay.proofs.Lawfulness.{ended_log, spent_unfinished}
-use Rattle.tap_replay.proofs.PlainRuns.{finished_is, left_same, plain_is, plain_log_is}
 use Rattle.tap_replay.proofs.Running.{unfinished}
 
 -- ---- what a run is, whether it goes on or has ended
@@ -42,25 +38,12 @@ use Rattle.tap_replay.proofs.Running.{unfinished}
 abbrev pub IsRun : Bool → Option End → ScenarioValue → WorldValue → Type 0
 IsRun c over s w = MatchOption over (GoesOnBy c s w) (λ end. IsLeftBy c s end w)
 
--- of a run that isn't carried the log is the whole one
-pub whole_is : (w : WorldValue) → w.added ≡ [] → whole_log w ≡ w.log
-whole_is w nothing = ap (woven w.log) nothing ∙ woven_nothing w.log
-
-unremarked : (over : Option End) (s : ScenarioValue) (w : WorldValue) → IsRun false over s w → w.added ≡ []
-unremarked None s w on = on.unremarked
-unremarked (Some end) s w left = left.unremarked
-
-plain_log : (over : Option End) (s : ScenarioValue) (w : WorldValue) → IsRun false over s w → IsLogOf s w.log
-plain_log None s w on = record { played = w.log; is_played = on.played; ending = inl refl }
-plain_log (Some end) s w left = ended_log s end w.log left.ended
-
 -- the whole log is that of a run
-pub log_by : (c : Bool) (over : Option End) (s : ScenarioValue) (w : WorldValue) → IsScript s → HasNoRootSets s → IsRun c over s w
-    → IsLogBy c s (whole_log w)
-log_by true None s w valid plays on = record { played = whole_log w; is_played = on.played; ending = inl refl }
-log_by true (Some end) s w valid plays left = carried_ended_log s end (whole_log w) left.ended
-log_by false over s w valid plays run =
-    subst (IsLogBy false s) (sym (whole_is w (unremarked over s w run))) (plain_log_is s valid plays w.log (plain_log over s w run))
+log_by : (c : Bool) (over : Option End) (s : ScenarioValue) (w : WorldValue) → IsRun c over s w → IsLogBy c s (whole_log w)
+log_by true None s w on = record { played = whole_log w; is_played = on.played; ending = inl refl }
+log_by true (Some end) s w left = carried_ended_log s end (whole_log w) left.ended
+log_by false None s w on = record { played = whole_log w; is_played = on.played; ending = inl refl }
+log_by false (Some end) s w left = ended_log s end (whole_log w) left.ended
 
 -- ---- all steps were begun, if the log says that they were run
 
@@ -76,11 +59,9 @@ finished_all s c played log is valid was finished = λ _.
     (run_logs_end_so.finished s played log valid (subst (λ b. IsPlayedBy b s played) (sym is) was)
     (subst (λ b. IsFinishedBy b s played log) (sym is) finished)).steps
 
-module _ (s : ScenarioValue) (valid : IsScript s) (plays : HasNoRootSets s) where
+module _ (s : ScenarioValue) (valid : IsScript s) where
   plain_all : (end : End) (log : List Record) → s.carrier ≡ false → HasEnded s end log → HasAll s log
-  plain_all Done log is ended =
-      finished_all s false ended.0 log is valid (plain_is s valid plays ended.0 ended.1).played
-      (finished_is s valid plays ended.0 log ended.1 ended.2)
+  plain_all Done log is ended = finished_all s false ended.0 log is valid ended.1 ended.2
   plain_all Spent log is ended = not_finished s log (spent_unfinished s ended.0 log ended.2)
   plain_all NoMemory log is ended = not_finished s log (unfinished log ended.going)
 
@@ -93,14 +74,11 @@ module _ (s : ScenarioValue) (valid : IsScript s) (plays : HasNoRootSets s) wher
         | inr cut ↦ not_finished s log (cut_unfinished s (record { valid = valid; carried = is }) ended.0 log ended.1 cut)
       ]
 
-  plain_ends : (over : Option End) (w : WorldValue) → s.carrier ≡ false → IsRun false over s w → HasAll s w.log
-  plain_ends None w is on = not_finished s w.log (unfinished w.log on.played.going)
-  plain_ends (Some end) w is left = plain_all end w.log is left.ended
-
   all_by : (c : Bool) (over : Option End) (w : WorldValue) → s.carrier ≡ c → IsRun c over s w → HasAll s (whole_log w)
   all_by true None w is on = not_finished s (whole_log w) (unfinished (whole_log w) on.played.going)
   all_by true (Some end) w is left = carried_all end (whole_log w) is left.ended
-  all_by false over w is run = subst (HasAll s) (sym (whole_is w (unremarked over s w run))) (plain_ends over w is run)
+  all_by false None w is on = not_finished s (whole_log w) (unfinished (whole_log w) on.played.going)
+  all_by false (Some end) w is left = plain_all end (whole_log w) is left.ended
 
 -- what is left after the last step has the nodes of its log
 pub left_nodes : (c : Bool) (s : ScenarioValue) (end : End) (w : WorldValue) → IsLeftBy c s end w → end ≡ Done → HasNodesOfLog w
@@ -109,16 +87,16 @@ left_nodes false s end w left = left.nodes
 
 -- ---- a player
 
-module _ (s : ScenarioValue) (valid : IsScript s) (plays : HasNoRootSets s) (p : PlayerValue) (played : HasPlayed s p) where
+module _ (s : ScenarioValue) (valid : IsScript s) (p : PlayerValue) (played : HasPlayed s p) where
   pub player_log : IsRunLog s (whole_log p.world)
-  player_log = log_by s.carrier p.over s p.world valid plays played
+  player_log = log_by s.carrier p.over s p.world played
 
   -- it may turn by its scenario once more, whether its run is over or not
   pub may_turn : MayTurn s (whole_log p.world)
   may_turn = record {
     begins = runs_by_carrier.begins s (whole_log p.world) player_log;
     steps = (run_logs_follow s (whole_log p.world) valid player_log).steps;
-    all = all_by s valid plays s.carrier p.over p.world refl played;
+    all = all_by s valid s.carrier p.over p.world refl played;
   }
 
   pub has_headline : HasHeadlineBy s (whole_log p.world)
@@ -140,23 +118,16 @@ has_played s (Some end) (Carried run) is = subst (λ c. IsLeftBy c s end run.car
 
 -- ---- another scenario by which it may turn
 
-plain_unremarked : (s : ScenarioValue) (over : Option End) (run : Run) → GoesOnUnless over s run → run.world.added ≡ []
-plain_unremarked s None run of = of.goes_on.unremarked
-plain_unremarked s (Some end) run left = left.unremarked
+plain_alike : (s other : ScenarioValue) (over : Option End) (run : Run) → IsScript s → IsScript other → GoesOnUnless over s run
+    → other.carrier ≡ false → MayTurn other (whole_log run.world) → GoesOnUnless over other run
+plain_alike s other None run valid also of is may = run_alike s other run also of (plain_may other (whole_log run.world) is may)
+plain_alike s other (Some end) run valid also left is may =
+    left_alike s other end run.world valid left (plain_may other (whole_log run.world) is may)
 
-plain_alike : (s other : ScenarioValue) (over : Option End) (run : Run) → GoesOnUnless over s run → other.carrier ≡ false
-    → MayTurn other (whole_log run.world) → GoesOnUnless over other run
-plain_alike s other None run of is may =
-    run_alike s other run of
-    (plain_may other run.world.log is (subst (MayTurn other) (whole_is run.world (plain_unremarked s None run of)) may))
-plain_alike s other (Some end) run left is may =
-    left_alike s other end run.world left
-    (plain_may other run.world.log is (subst (MayTurn other) (whole_is run.world (plain_unremarked s (Some end) run left)) may))
-
-module _ (s other : ScenarioValue) (valid : IsScript s) (plays : HasNoRootSets s) (also : IsScript other) where
+module _ (s other : ScenarioValue) (valid : IsScript s) (also : IsScript other) where
   by_running : (over : Option End) (running : Running) → other.carrier ≡ s.carrier → beginning_in other ≡ beginning_in s
       → RunsUnless over s running → MayTurn other (whole_log (world_of running)) → RunsUnless over other running
-  by_running over (Plain run) same begins is may = (same ∙ is.0, plain_alike s other over run is.1 (same ∙ is.0) may)
+  by_running over (Plain run) same begins is may = (same ∙ is.0, plain_alike s other over run valid also is.1 (same ∙ is.0) may)
   by_running None (Carried run) same begins is may = (same ∙ is.0, carried_run_alike s other run also (same ∙ is.0) begins is.1 may)
   by_running (Some end) (Carried run) same begins is may = (
     same ∙ is.0,
@@ -168,31 +139,17 @@ module _ (s other : ScenarioValue) (valid : IsScript s) (plays : HasNoRootSets s
       → RunsUnless over other running
   runs_alike over running is may =
       let log = whole_log (world_of running) in
-      let of = player_log s valid plays (player_of running over) (has_played s over running is) in
+      let of = player_log s valid (player_of running over) (has_played s over running is) in
       let both = same_beginnings s.carrier other.carrier (beginning_in s) (beginning_in other)
       (sym (runs_by_carrier.begins s log of) ∙ may.begins) in
       by_running over running both.0 both.1 is may
 
 -- ---- turns
 
-module _ (s : ScenarioValue) (over : Option End) (before after : Run) (given : Turned) (uncarried : s.carrier ≡ false)
-    (was : GoesOnUnless None s before) (is : GoesOnUnless over s after) where
-  first_is : before.world.log ≡ whole_log before.world
-  first_is = sym (whole_is before.world (plain_unremarked s None before was))
+-- those of a run that isn't carried
+module _ (s : ScenarioValue) (before after : List Record) (uncarried : s.carrier ≡ false) where
+  pub plain_turns : (given : Turned) → TurnsAs (turn_outcome s before) before given after → TurnsBy s.carrier s before given after
+  plain_turns given turns = subst (λ c. TurnsBy c s before given after) (sym uncarried) turns
 
-  then_is : after.world.log ≡ whole_log after.world
-  then_is = sym (whole_is after.world (plain_unremarked s over after is))
-
-  pub plain_turns : TurnsAs (turn_outcome s before.world.log) before.world.log given after.world.log
-      → TurnsBy s.carrier s (whole_log before.world) given (whole_log after.world)
-  plain_turns turns =
-      subst (λ c. TurnsBy c s (whole_log before.world) given (whole_log after.world)) (sym uncarried)
-      (subst (λ l. TurnsAs (turn_outcome s l) l given (whole_log after.world)) first_is
-      (subst (λ l. TurnsAs (turn_outcome s before.world.log) before.world.log given l) then_is turns))
-
-  pub plain_less : left_of s after.world.log < left_of s before.world.log → left_in s (whole_log after.world) < left_in s (whole_log before.world)
-  plain_less less =
-      subst (λ c. left_to_run c s (whole_log after.world) < left_to_run c s (whole_log before.world)) (sym uncarried)
-      (subst (λ n. n < left_of s (reduced (whole_log before.world))) (sym (left_same s (whole_log after.world)))
-      (subst (λ n. left_of s (whole_log after.world) < n) (sym (left_same s (whole_log before.world)))
-      (subst (λ l. left_of s (whole_log after.world) < left_of s l) first_is (subst (λ l. left_of s l < left_of s before.world.log) then_is less))))
+  pub plain_less : left_of s (reduced after) < left_of s (reduced before) → left_in s after < left_in s before
+  plain_less less = subst (λ c. left_to_run c s after < left_to_run c s before) (sym uncarried) less

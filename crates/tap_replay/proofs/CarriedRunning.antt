@@ -34,7 +34,7 @@ use Rattle.tap_replay.specs.declared.carried_run.CarriedRun.{CarriedRun}
 use Rattle.tap_replay.specs.declared.choice.Choice.TheVariants.{Nothing}
 use Rattle.tap_replay.specs.declared.ticks.Ticks.TheVariants.{Never}
 use Rattle.tap_replay.proofs.CarriedGroups.{begun_arrived, begun_ticked, choice_arrived, choice_ticked, one_more_arrived, one_more_ticked}
-use Rattle.tap_replay.proofs.CarriedSteps.{accepted_choice, begun_choice, begun_one_more, chosen_accepted, last_begun, nothing_after, nothing_refused, refused_choice}
+use Rattle.tap_replay.proofs.CarriedSteps.{ChoosesNothing, accepted_choice, begun_choice, begun_one_more, chosen_accepted, last_begun, nothing_after, nothing_refused, refused_choice}
 
 -- ---- what comes next
 
@@ -156,14 +156,14 @@ module _ (s : ScenarioValue) (before after : CarriedRun) (carries : CarriesRun s
       })
 
   -- one that chooses nothing
-  pub other_adds : is_choice step ≡ false → after.choice ≡ Nothing → after.ticks ≡ Never → (given : Result (Unit {0}) Stop)
+  pub other_adds : ChoosesNothing step → after.choice ≡ Nothing → after.ticks ≡ Never → (given : Result (Unit {0}) Stop)
       → AddsNext s before.carried.world given after.carried.world after.carried.carrier → AddsCarried s before given after
-  other_adds not choice ticks given so =
+  other_adds nothing choice ticks given so =
       step_adds given so (λ within.
       let last = last_begun s log group carries.script carries.goes_on.played step none next refl within in
       subst (λ c. AreChosen (carried_choice (log ++ group)) c after.ticks) (sym choice)
       (subst (λ t. AreChosen (carried_choice (log ++ group)) Nothing t) (sym ticks)
-      (nothing_after (carried_choice (log ++ group)) step last not)))
+      (nothing_after (carried_choice (log ++ group)) step last nothing)))
 
   -- a choice that is refused, and one that isn't
   pub refused_adds : (refusal : Refusal) → first_refusal log step ≡ Some refusal → after.choice ≡ Nothing → after.ticks ≡ Never

@@ -59,15 +59,31 @@ no_tick step ticked stranded not = refl
 some_same : (one other : Step) → Some one ≡ Some other → one ≡ other
 some_same one other is = cc
 
+-- the step chooses no packet and no tick
+pub record ChoosesNothing (step : Step) : Type 0 where
+  pub place : (taken count : ℕ) → place_chosen step taken count ≡ None
+  pub tick : (ticked : ℕ) (stranded : Bool) → tick_chosen step ticked stranded ≡ false
+
+-- so it is of starts and observations, and of root sets
+pub other_chooses : (step : Step) → is_choice step ≡ false → ChoosesNothing step
+other_chooses step not = record {
+  place = λ taken count. no_place step taken count not;
+  tick = λ ticked stranded. no_tick step ticked stranded not;
+}
+
+pub root_set_chooses : (object asker : List ℕ) → ChoosesNothing (RootSet object asker)
+unfolding place_chosen tick_chosen
+root_set_chooses object asker = record { place = λ taken count. refl; tick = λ ticked stranded. refl }
+
 -- after a step that chooses nothing nothing is chosen
-pub nothing_after : (c : CarriedChoice) (step : Step) → c.step ≡ Some step → is_choice step ≡ false → AreChosen c Nothing Never
-nothing_after c step last not = record {
+pub nothing_after : (c : CarriedChoice) (step : Step) → c.step ≡ Some step → ChoosesNothing step → AreChosen c Nothing Never
+nothing_after c step last nothing = record {
   refused = λ _. (refl, refl);
-  chosen = λ _ count. ap (option_and_then (λ s. place_chosen s c.arrived count)) last ∙ no_place step c.arrived count not;
+  chosen = λ _ count. ap (option_and_then (λ s. place_chosen s c.arrived count)) last ∙ nothing.place c.arrived count;
   none = λ _. refl;
   ticked = λ other is accepted stranded.
       let same : step ≡ other = some_same step other (sym last ∙ is) in
-      no_tick other c.ticked stranded (subst (λ st. is_choice st ≡ false) same not);
+      (subst ChoosesNothing same nothing).tick c.ticked stranded;
 }
 
 -- a step that was refused, and one that wasn't

@@ -1,16 +1,18 @@
 mod Choosing
 mod Stepping
 pub mod Running
+mod Roots
+mod Adding
 mod Alike
 mod Turning
-pub mod PlainRuns
 mod Lawfulness
 mod CarriedChoosing
 mod CarriedGroups
 mod CarriedSteps
 mod CarriedRunning
 mod CarriedTurning
-pub mod CarriedFronts
+mod CarriedFronts
 mod CarriedLawfulness
 mod CarriedAlike
 pub mod ByCarrier
+pub mod Left

@@ -3,7 +3,7 @@ use Rattle.std.proofs.Common.{◌≡◌, ◌≢◌, ℕ, ◌<◌, ◌≤◌, Boo
 use Rattle.std.specs.Prelude.{if◌then◌else◌}
 use Rattle.std.proofs.lemmas.Bool.{le-leb, lt-leb}
 use Rattle.tap_name.specs.Settings.{SettingsValue}
-use Rattle.tap_scenario.specs.Step.{IsStep, is_played}
+use Rattle.tap_scenario.specs.Step.{IsStep, asks_no_roots}
 use Rattle.tap_scenario.specs.declared.step.Step.{Step}
 use Rattle.tap_scenario.specs.declared.step.Step.TheVariants.{Deliver, Settle, SettleNewest, SettleMixed, Tick, Lose, Repeat, RootSet}
 use Rattle.tap_log.specs.declared.record.Record.{Record}
@@ -192,9 +192,9 @@ module _ (w v : WorldValue) (index : ℕ) (step : Step) (refusal : Refusal) (run
 
 -- ---- a settle is never refused
 
-pub settle_goes : (p : SettingsValue) (log : List Record) (step : Step) → IsTrue (is_played step) → IsStep p false step
+pub settle_goes : (p : SettingsValue) (log : List Record) (step : Step) → IsTrue (asks_no_roots step) → IsStep p false step
     → ((place : ℕ) → step ≢ Deliver place) → is_choice step ≡ true → first_refusal log step ≡ None
-unfolding is_choice is_played
+unfolding is_choice asks_no_roots
 settle_goes p log (Deliver place) played is other chosen = absurd (other place refl)
 settle_goes p log Settle played is other chosen = settle_accepted log
 settle_goes p log SettleNewest played is other chosen = newest_accepted log

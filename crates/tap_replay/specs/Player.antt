@@ -1,16 +1,16 @@
 -- What contracts see of a player, and what its turns make of a run that isn't carried.
 --
 -- Rule: docs/FORMATS.md, "What comes next" and "The ways a run ends".
-use Rattle.std.specs.Prelude.{◌≡◌, ◌≢◌, Bool, true, false, List, [], take, Option, None, Some, Result, Ok, Err}
+use Rattle.std.specs.Prelude.{◌≡◌, ◌≢◌, true, false, List, take, Option, None, Some, Result, Ok, Err}
 use Rattle.tap_scenario.specs.Scenario.{ScenarioValue}
 use Rattle.tap_log.specs.declared.record.Record.{Record}
 use Rattle.tap_log.specs.Log.{begun_steps}
 use Rattle.tap_engine.specs.Kinds.{is_finished}
-use Rattle.tap_engine.specs.World.{HasNodesOfLog, WorldValue}
+use Rattle.tap_engine.specs.World.{HasNodesOfLog, WorldValue, whole_log}
 use Rattle.tap_engine.specs.declared.stop.Stop.{Stop}
 use Rattle.tap_engine.specs.declared.stop.Stop.TheVariants.{NoMemory as StopNoMemory, Spent as StopSpent}
 use Rattle.tap_lawful.specs.Next.{beginning_in, begun_count}
-use Rattle.tap_lawful.specs.Lawful.{IsFinished, IsPlayed, IsSpent}
+use Rattle.tap_lawful.specs.Lawful.{IsUncarriedFinished, IsUncarriedPlayed, IsUncarriedSpent}
 use Rattle.tap_lawful.specs.Runs.{BeginsAsScenario}
 use Rattle.tap_replay.specs.Run.{IsRunOf}
 use Rattle.tap_replay.specs.Turn.{TurnOutcome}
@@ -30,25 +30,19 @@ pub record PlayerValue : Type 0 where
 -- The log is that of a run of the scenario that ended so: all steps were run, too many frames would have been sent, or memory was
 -- refused.
 abbrev pub HasEnded : ScenarioValue → End → List Record → Type 0
-HasEnded s Done log = (played : List Record) × IsPlayed s played × IsFinished s played log
-HasEnded s Spent log = (played : List Record) × IsPlayed s played × IsSpent s played log
-HasEnded s NoMemory log = IsPlayed s log
+HasEnded s Done log = (played : List Record) × IsUncarriedPlayed s played × IsUncarriedFinished s played log
+HasEnded s Spent log = (played : List Record) × IsUncarriedPlayed s played × IsUncarriedSpent s played log
+HasEnded s NoMemory log = IsUncarriedPlayed s log
 
--- whether a run that has ended so has stopped its world
-abbrev pub has_stopped : End → Bool
-has_stopped Done = false
-has_stopped Spent = true
-has_stopped NoMemory = true
-
--- What the run of the scenario leaves that has ended so: the log is that of such a run, with what it begins is the scenario's, nothing was
--- remarked, no refusal is left to be noted, and the world was stopped exactly if too many frames would have been sent or memory was refused. If all steps were run, the
--- nodes of the world are those of the system that its log has come to.
+-- What the run of the scenario leaves that has ended so: the whole log is that of such a run, with what it begins is the scenario's, and no
+-- refusal is left to be noted. The world was stopped if too many frames would have been sent, and not if all steps were run; then its nodes are
+-- those of the system that its log has come to.
 pub record IsLeft (s : ScenarioValue) (end : End) (w : WorldValue) : Type 0 where
-  pub ended : HasEnded s end w.log
+  pub ended : HasEnded s end (whole_log w)
   pub beginning : w.beginning ≡ beginning_in s
   pub noted : w.refused ≡ None
-  pub stopped : w.stopped ≡ has_stopped end
-  pub unremarked : w.added ≡ []
+  pub spent : end ≡ Spent → w.stopped ≡ true
+  pub done : end ≡ Done → w.stopped ≡ false
   pub nodes : end ≡ Done → HasNodesOfLog w
 
 -- ---- turns

@@ -1,9 +1,8 @@
 -- What contracts see of a player, and what its turns make of it: of a carried run, and of one that isn't carried.
 --
 -- Rule: docs/FORMATS.md, "What comes next" and "The ways a run ends".
-use Rattle.std.specs.Prelude.{◌≡◌, Bool, true, false, IsTrue, List, All, Option, MatchOption}
+use Rattle.std.specs.Prelude.{◌≡◌, Bool, true, false, List, Option, MatchOption}
 use Rattle.tap_scenario.specs.Scenario.{IsScript, ScenarioValue}
-use Rattle.tap_scenario.specs.Step.{is_played}
 use Rattle.tap_carried_world.specs.Value.{CarriesOn}
 use Rattle.tap_engine.specs.World.{WorldValue, whole_log}
 use Rattle.tap_log.specs.declared.record.Record.{Record}
@@ -16,12 +15,6 @@ use Rattle.tap_replay.specs.declared.end.Turned.{Turned}
 use Rattle.tap_replay.specs.declared.end.Turned.TheVariants.{Over}
 use Rattle.tap_replay.specs.declared.runs.Running.{Running}
 use Rattle.tap_replay.specs.declared.runs.Running.TheVariants.{Carried, Plain}
-
--- ---- what a player plays
-
--- a player takes each step: none is a root set
-abbrev pub HasNoRootSets : ScenarioValue → Type 0
-HasNoRootSets s = All (λ step. IsTrue (is_played step)) s.steps
 
 -- ---- how far a run has come, by whether it is carried
 
@@ -67,9 +60,8 @@ abbrev pub RunsUnless : Option End → ScenarioValue → Running → Type 0
 RunsUnless over s (Plain run) = (s.carrier ≡ false) × GoesOnUnless over s run
 RunsUnless over s (Carried run) = (s.carrier ≡ true) × GoesOnCarriedUnless over s run
 
--- the player runs some scenario that is within its limits and has no root sets, from here on or to this end
+-- the player runs some scenario that is within its limits, from here on or to this end
 pub record IsPlayer (running : Running) (over : Option End) : Type 0 where
   pub script : ScenarioValue
   pub valid : IsScript script
-  pub plays : HasNoRootSets script
   pub run_is : RunsUnless over script running

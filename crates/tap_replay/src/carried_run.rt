@@ -3,7 +3,7 @@ ghost use Rattle.tap_carried.specs.LogTurns.{beginning_records};
 ghost use Rattle.tap_carried_world.specs.Comes.{BeginsNext};
 ghost use Rattle.tap_carried_world.specs.Value.{CarriesRun};
 ghost use Rattle.tap_lawful.specs.Next.{beginning_in, begun_count};
-ghost use Rattle.tap_scenario.specs.Step.{is_played};
+ghost use Rattle.tap_scenario.specs.Step.{asks_no_roots};
 ghost use Rattle.tap_engine.specs.World.{whole_log};
 ghost use Rattle.tap_engine.specs.Kinds.{observes};
 ghost use Rattle.tap_history.specs.StepAsks.{is_start};
@@ -16,7 +16,6 @@ ghost use Rattle.tap_replay.specs.CarriedRun.{AddsCarried, IsCarriedRunOf};
 ghost use Rattle.tap_replay.specs.CarriedTurn.{carried_turn_outcome};
 ghost use Rattle.tap_replay.specs.Player.{over_by};
 ghost use Rattle.tap_runs.specs.Course.{is_choice};
-ghost use Rattle.tap_replay.specs.Runs.{HasNoRootSets};
 
 use crate::choice::Choice;
 use crate::end::{End, Turned};
@@ -29,9 +28,10 @@ use tap_scenario::{Scenario, Step};
 use tap_world::{NoMemory, Stop};
 
 // What a player of a carried run works on: the world with its carrier, how many steps were begun, and what the last one has chosen of the
-// packets that arrive next, and of ticks.
+// packets that arrive next, and of ticks. Roots take memory of the allocator.
 #[derive(Drop)]
 pub(crate) struct CarriedRun {
+    pub(crate) alloc: Global,
     pub(crate) carried: CarriedWorld,
     pub(crate) begun: u32,
     pub(crate) choice: Choice,
@@ -47,6 +47,7 @@ impl CarriedRun {
     {
         let carried = CarriedWorld::new(alloc, scenario)?;
         Ok(CarriedRun {
+            alloc,
             carried,
             begun: 0,
             choice: Choice::Nothing,
@@ -56,8 +57,7 @@ impl CarriedRun {
 
     // Adds the group that comes next, and if none comes after it, that all steps were run.
     pub(crate) fn turn(&mut self, scenario: &Scenario) -> Turned
-        requires run { IsCarriedRunOf scenario.now self.old }
-        requires plays { HasNoRootSets scenario.now }
+        requires { IsCarriedRunOf scenario.now self.old }
         ensures turns { CarriedTurnsAs scenario.now (whole_log self.old.carried.world) result (whole_log self.new.carried.world) }
         ensures run { GoesOnCarriedUnless (over_by result) scenario.now self.new }
         ensures less { result ≡ Turned.More →
@@ -76,8 +76,7 @@ impl CarriedRun {
 
     // Adds the group that comes next, if one does.
     fn add_next(&mut self, scenario: &Scenario) -> Result<(), Stop>
-        requires run { IsCarriedRunOf scenario.now self.old }
-        requires plays { HasNoRootSets scenario.now }
+        requires { IsCarriedRunOf scenario.now self.old }
         ensures { AddsCarried scenario.now self.old result self.new }
     {
         if let Some(place) = self.choice.take(self.carried.under_way()) {
@@ -93,7 +92,6 @@ impl CarriedRun {
     // Adds the group of the next step, if one is left.
     fn add_step(&mut self, scenario: &Scenario) -> Result<(), Stop>
         requires run { IsCarriedRunOf scenario.now self.old }
-        requires plays { HasNoRootSets scenario.now }
         requires none { carried_due (whole_log self.old.carried.world) ≡ None }
         ensures { AddsCarried scenario.now self.old result self.new }
     {
@@ -105,6 +103,11 @@ impl CarriedRun {
         self.begun += 1;
         self.choice = Choice::Nothing;
         self.ticks = Ticks::Never;
+        if let Step::RootSet { object, asker } = &step {
+            return self
+                .carried
+                .root_set(self.alloc, scenario, self.begun, *object, *asker);
+        }
         match call_of(&step) {
             Some(Call::Start) => self.carried.start(scenario, self.begun, &step),
             Some(Call::Observe) => self.carried.observe(scenario, self.begun, &step),
@@ -118,7 +121,7 @@ impl CarriedRun {
         requires carries { CarriesRun scenario.now self.old.carried.world self.old.carried.carrier }
         requires next { BeginsNext scenario.now self.old.carried.world self.old.begun step.now }
         requires kind { is_choice step.now ≡ true }
-        requires played { IsTrue (is_played step.now) }
+        requires played { IsTrue (asks_no_roots step.now) }
         requires nothing { (self.old.choice ≡ Choice.Nothing) × (self.old.ticks ≡ Ticks.Never) }
         ensures { AddsCarried scenario.now (record self.old { begun = begun_count (whole_log self.old.carried.world) }) result self.new }
     {

@@ -3,7 +3,6 @@ ghost use Rattle.tap_carried.specs.LogTurns.{beginning_records};
 ghost use Rattle.tap_engine.specs.World.{whole_log};
 ghost use Rattle.tap_headline.specs.Runs.{HasHeadlineBy};
 ghost use Rattle.tap_lawful.specs.Runs.{IsLawful};
-ghost use Rattle.tap_replay.specs.Runs.{HasNoRootSets};
 ghost use Rattle.tap_lawful.specs.Next.{beginning_in};
 ghost use Rattle.tap_replay.specs.Player.{MayTurn, over_by};
 ghost use Rattle.tap_replay.specs.Runs.{HasPlayed, TakesTurn};
@@ -48,10 +47,7 @@ impl Player {
     /// the scenario is carried.
     ///
     /// Later turns take memory of `alloc`. `NoMemory` if memory was refused.
-    ///
-    /// Condition: no step is a root set.
     pub fn new(alloc: Global, scenario: &Scenario) -> Result<Player, NoMemory>
-        requires { HasNoRootSets scenario.now }
         ensures world { scenario.now.carrier ≡ false → IfOk result (λ player. HasBegun (beginning_in scenario.now) player.world) }
         ensures log { IfOk result (λ player. whole_log player.world ≡ beginning_records scenario.now.carrier (beginning_in scenario.now)) }
         ensures over { IfOk result (λ player. player.over ≡ None) }
@@ -76,10 +72,9 @@ impl Player {
     /// `Over` answers the same again, and adds nothing.
     ///
     /// Condition: the log begins as the scenario does, its steps are the scenario's first ones, and they are all of them if it has
-    /// `Finished`; so it is after each turn by the same scenario. No step is a root set.
+    /// `Finished`; so it is after each turn by the same scenario.
     pub fn turn(&mut self, scenario: &Scenario) -> Turned
-        requires script { MayTurn scenario.now (whole_log self.old.world) }
-        requires plays { HasNoRootSets scenario.now }
+        requires { MayTurn scenario.now (whole_log self.old.world) }
         ensures turns { TakesTurn scenario.now self.old result self.new }
         ensures over { self.new.over ≡ over_by result }
         ensures played { HasPlayed scenario.now self.new }

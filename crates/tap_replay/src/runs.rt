@@ -5,7 +5,6 @@ ghost use Rattle.tap_lawful.specs.Next.{beginning_in};
 ghost use Rattle.tap_replay.specs.Player.{over_by};
 ghost use Rattle.tap_replay.specs.Runs.{RunsUnless, TurnsBy, world_of};
 ghost use Rattle.tap_lawful.specs.RunLaws.{left_in};
-ghost use Rattle.tap_replay.specs.Runs.{HasNoRootSets};
 ghost use Rattle.tap_scenario.specs.Scenario.{IsScript};
 
 use crate::carried_run::CarriedRun;
@@ -40,8 +39,7 @@ impl Running {
 
     // Adds the group that comes next, and if none comes after it, that all steps were run.
     pub(crate) fn turn(&mut self, scenario: &Scenario) -> Turned
-        requires run { RunsUnless None scenario.now self.old }
-        requires plays { HasNoRootSets scenario.now }
+        requires { RunsUnless None scenario.now self.old }
         ensures turns { TurnsBy scenario.now.carrier scenario.now (whole_log (world_of self.old)) result (whole_log (world_of self.new)) }
         ensures run { RunsUnless (over_by result) scenario.now self.new }
         ensures less { result ≡ Turned.More → left_in scenario.now (whole_log (world_of self.new)) < left_in scenario.now (whole_log (world_of self.old)) }

@@ -1,5 +1,5 @@
 ghost use Rattle.std.specs.Prelude.{false, IsTrue, Some};
-ghost use Rattle.tap_scenario.specs.Step.{IsStep, is_played};
+ghost use Rattle.tap_scenario.specs.Step.{IsStep, asks_no_roots};
 ghost use Rattle.tap_engine.specs.Outcome.{IsNextIndex, MayGoOn, WorldAnswersAs, step_outcome};
 ghost use Rattle.tap_replay.specs.StepCalls.{IsCallOf, MayRun, run_outcome};
 
@@ -65,11 +65,11 @@ fn choose_place(world: &mut World, index: u32, place: u32) -> Result<(), Stop>
     world.note(index, Refusal::NoSuchFlight(count))
 }
 
-// Adds the group of a step. Of one that chooses what is taken next that is the step alone, or with its refusal.
+// Adds the group of a step that isn't a root set. Of one that chooses what is taken next that is the step alone, or with its refusal.
 pub(crate) fn run_step(world: &mut World, index: u32, step: &Step) -> Result<(), Stop>
     requires may { MayRun world.old }
     requires next { IsNextIndex world.old index }
-    requires played { IsTrue (is_played step.now) }
+    requires played { IsTrue (asks_no_roots step.now) }
     requires names { IsStep world.old.beginning.settings false step.now }
     ensures { WorldAnswersAs (run_outcome world.old index step.now) world.old result world.new }
 {

@@ -2,7 +2,6 @@ ghost use Rattle.std.specs.Prelude.{◌≡◌, IfSome};
 ghost use Rattle.tap_engine.specs.World.{HasNodesOfLog, whole_log};
 ghost use Rattle.tap_headline.specs.Runs.{HasHeadlineBy};
 ghost use Rattle.tap_lawful.specs.Runs.{IsLawful};
-ghost use Rattle.tap_replay.specs.Runs.{HasNoRootSets};
 ghost use Rattle.tap_replay.specs.Whole.{IsReplay};
 
 use crate::end::{End, Turned};
@@ -27,14 +26,11 @@ pub struct Played {
 /// `Done` comes exactly if every step was run, and `Spent` exactly if the next group would have sent more frames than may be sent; the
 /// log ends with the record that says so. `NoMemory` comes only if memory was refused. The run takes memory of `alloc`.
 ///
-/// After `Done` the nodes of the world are those of the system that its log has come to; after `Spent` it was stopped, and after `NoMemory`,
-/// unless the run is carried. However the run has ended, its log is lawful and has the headline.
-///
-/// Condition: no step is a root set.
+/// After `Done` the nodes of the world are those of the system that its log has come to; after `Spent` it was stopped, and after `NoMemory` it
+/// may have been. However the run has ended, its log is lawful and has the headline.
 ///
 /// Rule: docs/FORMATS.md, "What comes next".
 pub fn replay(alloc: Global, scenario: &Scenario) -> Played
-    requires { HasNoRootSets scenario.now }
     ensures left { IsReplay scenario.now result }
     ensures nodes { result.end ≡ End.Done → IfSome result.world HasNodesOfLog }
     ensures lawful { IfSome result.world (λ world. IsLawful (whole_log world)) }

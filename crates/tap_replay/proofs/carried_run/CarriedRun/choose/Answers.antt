@@ -17,11 +17,11 @@ returns c =
     let next = c.requires.next in
     let mid : CarriedRun = c.if-is_none.self in
     let before : CarriedRun =
-    record { carried = run.carried; begun = begun_count (whole_log run.carried.world); choice = run.choice; ticks = run.ticks } in
-    let after : CarriedRun = record { carried = c.choose.new.self; begun = mid.begun; choice = mid.choice; ticks = mid.ticks } in
+    record { alloc = run.alloc; carried = run.carried; begun = begun_count (whole_log run.carried.world); choice = run.choice; ticks = run.ticks } in
+    let after : CarriedRun = record { alloc = mid.alloc; carried = c.choose.new.self; begun = mid.begun; choice = mid.choice; ticks = mid.ticks } in
     elim c.if-is_none.branch [
       | then-is_none w ↦
-          let same : mid ≡ record { carried = run.carried; begun = run.begun; choice = w.of-self.result; ticks = w.of-self-then-is_none.result } =
+          let same : mid ≡ record { alloc = run.alloc; carried = run.carried; begun = run.begun; choice = w.of-self.result; ticks = w.of-self-then-is_none.result } =
           w.self-is in
           choice_adds s before after c.requires.carries step next.none next.step_is (ap (λ (r : CarriedRun). r.begun) same ∙ next.index_is)
           c.requires.kind
@@ -31,7 +31,7 @@ returns c =
           (subst (λ (r : CarriedRun). AddsNext s r.carried.world c.choose.result c.choose.new.self.world c.choose.new.self.carrier) same
           c.choose.ensures)
       | else-is_none w ↦
-          let same : mid ≡ record { carried = run.carried; begun = run.begun; choice = run.choice; ticks = run.ticks } = w.self-is in
+          let same : mid ≡ record { alloc = run.alloc; carried = run.carried; begun = run.begun; choice = run.choice; ticks = run.ticks } = w.self-is in
           let refused = some_refusal c.refusal.result (c.is_none.ensures ∙ ap not w.if-is_none.false) in
           refused_adds s before after c.requires.carries step next.none next.step_is (ap (λ (r : CarriedRun). r.begun) same ∙ next.index_is)
           refused.0 (sym (c.refusal.ensures s c.requires.carries) ∙ refused.1) (ap (λ (r : CarriedRun). r.choice) same ∙ c.requires.nothing.0)

@@ -8,25 +8,25 @@ use Rattle.tap_replay.proofs.CarriedTurning.{added_run, done_turns, more_less, m
 use Rattle.tap_replay.proofs.carried_run.CarriedRun.turn.Goals as goal
 
 pub is_more-requires : goal.is_more-requires
-is_more-requires c = added_run c.args.scenario.now c.args.self.now c.add_next.new.self c.requires.run c.in-Ok.ensures
+is_more-requires c = added_run c.args.scenario.now c.args.self.now c.add_next.new.self c.requires c.in-Ok.ensures
 
 pub returns-then-is_more-clause-turns : goal.returns-then-is_more-clause-turns
 returns-then-is_more-clause-turns c =
-    more_turns c.args.scenario.now c.args.self.now c.add_next.new.self c.requires.run c.in-Ok.ensures (sym c.is_more.ensures ∙ c.if-is_more.true)
+    more_turns c.args.scenario.now c.args.self.now c.add_next.new.self c.requires c.in-Ok.ensures (sym c.is_more.ensures ∙ c.if-is_more.true)
 
 pub returns-then-is_more-clause-run : goal.returns-then-is_more-clause-run
-returns-then-is_more-clause-run c = added_run c.args.scenario.now c.args.self.now c.add_next.new.self c.requires.run c.in-Ok.ensures
+returns-then-is_more-clause-run c = added_run c.args.scenario.now c.args.self.now c.add_next.new.self c.requires c.in-Ok.ensures
 
 pub returns-then-is_more-clause-less : goal.returns-then-is_more-clause-less
 returns-then-is_more-clause-less c = λ _.
-    more_less c.args.scenario.now c.args.self.now c.add_next.new.self c.requires.run c.in-Ok.ensures (sym c.is_more.ensures ∙ c.if-is_more.true)
+    more_less c.args.scenario.now c.args.self.now c.add_next.new.self c.requires c.in-Ok.ensures (sym c.is_more.ensures ∙ c.if-is_more.true)
 
 pub finish-requires-clause-run : goal.finish-requires-clause-run
-finish-requires-clause-run c = added_run c.args.scenario.now c.args.self.now c.add_next.new.self c.requires.run c.in-Ok.ensures
+finish-requires-clause-run c = added_run c.args.scenario.now c.args.self.now c.add_next.new.self c.requires c.in-Ok.ensures
 
 pub finish-requires-clause-none : goal.finish-requires-clause-none
 finish-requires-clause-none c =
-    none_more c.args.scenario.now c.args.self.now c.add_next.new.self c.requires.run (sym c.is_more.ensures ∙ c.if-is_more.false)
+    none_more c.args.scenario.now c.args.self.now c.add_next.new.self c.requires (sym c.is_more.ensures ∙ c.if-is_more.false)
 
 pub returns-else-is_more-clause-turns : goal.returns-else-is_more-clause-turns
 returns-else-is_more-clause-turns c =
@@ -35,7 +35,7 @@ returns-else-is_more-clause-turns c =
     let log = whole_log c.finish.new.self.carried.world in
     let end : c.end_of.result ≡ Done = c.end_of.ensures ∙ ap end_of c.finish.ensures.answer in
     subst (λ e. CarriedTurnsAs s (whole_log before.carried.world) (Over e) log) (sym end)
-    (done_turns s before c.add_next.new.self c.requires.run c.in-Ok.ensures log c.finish.ensures.log)
+    (done_turns s before c.add_next.new.self c.requires c.in-Ok.ensures log c.finish.ensures.log)
 
 pub returns-else-is_more-clause-run : goal.returns-else-is_more-clause-run
 returns-else-is_more-clause-run c =
@@ -49,7 +49,7 @@ returns-in-Err-clause-turns c =
     let before = c.args.self.now in
     let after = c.add_next.new.self in
     subst (λ e. CarriedTurnsAs s (whole_log before.carried.world) (Over e) (whole_log after.carried.world)) (sym c.end_of-in-Err.ensures)
-    (stopped_so s before after c.requires.run c.in-Err.stop c.in-Err.ensures).turns
+    (stopped_so s before after c.requires c.in-Err.stop c.in-Err.ensures).turns
 
 pub returns-in-Err-clause-run : goal.returns-in-Err-clause-run
 returns-in-Err-clause-run c =
@@ -57,8 +57,8 @@ returns-in-Err-clause-run c =
     let before = c.args.self.now in
     let after = c.add_next.new.self in
     subst (λ e. IsCarriedLeft s e after.carried.world) (sym c.end_of-in-Err.ensures)
-    (stopped_so s before after c.requires.run c.in-Err.stop c.in-Err.ensures).left
+    (stopped_so s before after c.requires c.in-Err.stop c.in-Err.ensures).left
 
 pub end_of-requires-in-Err : goal.end_of-requires-in-Err
 end_of-requires-in-Err c =
-    (stopped_so c.args.scenario.now c.args.self.now c.add_next.new.self c.requires.run c.in-Err.stop c.in-Err.ensures).ends
+    (stopped_so c.args.scenario.now c.args.self.now c.add_next.new.self c.requires c.in-Err.stop c.in-Err.ensures).ends

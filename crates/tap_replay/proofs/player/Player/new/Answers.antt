@@ -6,7 +6,6 @@ pub invariant_of-result : goal.invariant_of-result
 invariant_of-result c = record {
   script = c.args.scenario.now;
   valid = c.in_ok-running.ensures.valid;
-  plays = c.requires;
   run_is = c.in_ok-running.ensures.run;
 }
 
@@ -17,10 +16,10 @@ pub returns-clause-may : goal.returns-clause-may
 returns-clause-may c =
     let s = c.args.scenario.now in
     let running = c.in_ok-running.running in
-    may_turn s c.in_ok-running.ensures.valid c.requires (player_of running None) (has_played s None running c.in_ok-running.ensures.run)
+    may_turn s c.in_ok-running.ensures.valid (player_of running None) (has_played s None running c.in_ok-running.ensures.run)
 
 pub returns-clause-headline : goal.returns-clause-headline
 returns-clause-headline c =
     let s = c.args.scenario.now in
     let running = c.in_ok-running.running in
-    has_headline s c.in_ok-running.ensures.valid c.requires (player_of running None) (has_played s None running c.in_ok-running.ensures.run)
+    has_headline s c.in_ok-running.ensures.valid (player_of running None) (has_played s None running c.in_ok-running.ensures.run)

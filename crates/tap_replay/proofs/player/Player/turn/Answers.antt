@@ -13,7 +13,7 @@ use Rattle.tap_replay.proofs.player.Player.turn.Goals as goal
 runs_this : (s : ScenarioValue) (running : Running) (over : Option End) (p : PlayerValue) → player_of running over ≡ p → IsPlayer running over
     → IsScript s → MayTurn s (whole_log p.world) → RunsUnless over s running
 runs_this s running over p seen is valid may =
-    runs_alike is.script s is.valid is.plays valid over running is.run_is (subst (λ (q : PlayerValue). MayTurn s (whole_log q.world)) (sym seen) may)
+    runs_alike is.script s is.valid valid over running is.run_is (subst (λ (q : PlayerValue). MayTurn s (whole_log q.world)) (sym seen) may)
 
 played_this : (s : ScenarioValue) (running : Running) (over : Option End) (p : PlayerValue) → player_of running over ≡ p → IsPlayer running over
     → IsScript s → MayTurn s (whole_log p.world) → HasPlayed s p
@@ -22,25 +22,25 @@ played_this s running over p seen is valid may = subst (HasPlayed s) seen (has_p
 pub returns-in-Some-clause-played : goal.returns-in-Some-clause-played
 returns-in-Some-clause-played c =
     played_this c.args.scenario.now c.self.inside.running c.self.inside.over c.args.self.now c.self.view_is c.self.invariant
-    c.step_count.ensures.valid c.requires.script
+    c.step_count.ensures.valid c.requires
 
 pub returns-in-Some-clause-headline : goal.returns-in-Some-clause-headline
 returns-in-Some-clause-headline c =
-    has_headline c.args.scenario.now c.step_count.ensures.valid c.requires.plays c.args.self.now
+    has_headline c.args.scenario.now c.step_count.ensures.valid c.args.self.now
     (played_this c.args.scenario.now c.self.inside.running c.self.inside.over c.args.self.now c.self.view_is c.self.invariant
-    c.step_count.ensures.valid c.requires.script)
+    c.step_count.ensures.valid c.requires)
 
 pub returns-in-Some-clause-lawful : goal.returns-in-Some-clause-lawful
 returns-in-Some-clause-lawful c =
-    is_lawful c.args.scenario.now c.step_count.ensures.valid c.requires.plays c.args.self.now
+    is_lawful c.args.scenario.now c.step_count.ensures.valid c.args.self.now
     (played_this c.args.scenario.now c.self.inside.running c.self.inside.over c.args.self.now c.self.view_is c.self.invariant
-    c.step_count.ensures.valid c.requires.script)
+    c.step_count.ensures.valid c.requires)
 
-pub turn-turned-requires-clause-run : goal.turn-turned-requires-clause-run
-turn-turned-requires-clause-run c =
+pub turn-turned-requires : goal.turn-turned-requires
+turn-turned-requires c =
     subst (λ o. RunsUnless o c.args.scenario.now c.self.inside.running) c.in_default.is
     (runs_this c.args.scenario.now c.self.inside.running c.self.inside.over c.args.self.now c.self.view_is c.self.invariant
-    c.step_count.ensures.valid c.requires.script)
+    c.step_count.ensures.valid c.requires)
 
 pub returns-clause-turns : goal.returns-clause-turns
 returns-clause-turns c =
@@ -64,14 +64,14 @@ returns-clause-headline c =
     let s = c.args.scenario.now in
     let running = c.turn-turned.new.self in
     let over = over_by c.turn-turned.result in
-    has_headline s c.step_count.ensures.valid c.requires.plays (player_of running over) (has_played s over running c.turn-turned.ensures.run)
+    has_headline s c.step_count.ensures.valid (player_of running over) (has_played s over running c.turn-turned.ensures.run)
 
 pub returns-clause-lawful : goal.returns-clause-lawful
 returns-clause-lawful c =
     let s = c.args.scenario.now in
     let running = c.turn-turned.new.self in
     let over = over_by c.turn-turned.result in
-    is_lawful s c.step_count.ensures.valid c.requires.plays (player_of running over) (has_played s over running c.turn-turned.ensures.run)
+    is_lawful s c.step_count.ensures.valid (player_of running over) (has_played s over running c.turn-turned.ensures.run)
 
 pub returns-clause-less : goal.returns-clause-less
 returns-clause-less c = λ more.
@@ -84,4 +84,4 @@ returns-clause-may c =
     let s = c.args.scenario.now in
     let running = c.turn-turned.new.self in
     let over = over_by c.turn-turned.result in
-    may_turn s c.step_count.ensures.valid c.requires.plays (player_of running over) (has_played s over running c.turn-turned.ensures.run)
+    may_turn s c.step_count.ensures.valid (player_of running over) (has_played s over running c.turn-turned.ensures.run)
