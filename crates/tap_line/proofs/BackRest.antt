@@ -25,7 +25,7 @@ use Rattle.tap_line.specs.declared.line.Line.TheVariants as line
 use Rattle.tap_line.specs.declared.paths.Request.{Request}
 use Rattle.tap_line.specs.declared.paths.RootSet.{RootSet}
 use Rattle.tap_line.specs.declared.paths.WalkEnd.{WalkEnd}
-use Rattle.tap_line.specs.Front.{bytes_of_hex, hex, letters, names_before}
+use Rattle.tap_line.specs.Front.{bytes_of_hex, first_as, hex, letters, names_before}
 use Rattle.tap_line.specs.Line.{AreBytes, AreRoots, IsPath, IsSent}
 use Rattle.tap_line.specs.Reading.{cast_line_of_words, cast_of_words, has_head, is_head, is_path, line_of_cast, line_of_roots, request, root_set_line_of_words, root_set_of_words, sent_of_words, step_line_of_words, walk_end, walk_of_parts, walked_of_words}
 use Rattle.tap_line.proofs.Back.{Spelled, spelled}
@@ -268,17 +268,27 @@ walked_back p carrier texts found small read =
 
 -- ---- frames
 
--- a head that says this
+-- a head that has these words
 head_back : (read : Result Head HeadFault) (kind from to bytes : List ℕ) → has_head read kind from to ≡ true
-    → IsOk read × (kind ∷ text_of_name from ∷ text_of_name to ∷ encode_lower bytes ∷ [] ≡ words_of_head read bytes)
+    → IsOk read × (kind ∷ from ∷ to ∷ encode_lower bytes ∷ [] ≡ words_of_head read bytes)
 head_back (Err fault) kind from to bytes is = absurd (cc)
 head_back (Ok head) kind from to bytes is =
-    let both = and_parts (bytes_eq kind (word_of_kind head.kind) && bytes_eq from head.from) (bytes_eq to head.to) is in
-    let two = and_parts (bytes_eq kind (word_of_kind head.kind)) (bytes_eq from head.from) both.0 in
+    let both = and_parts (bytes_eq kind (word_of_kind head.kind) && bytes_eq from (text_of_name head.from)) (bytes_eq to (text_of_name head.to)) is in
+    let two = and_parts (bytes_eq kind (word_of_kind head.kind)) (bytes_eq from (text_of_name head.from)) both.0 in
     let one : kind ≡ word_of_kind head.kind = (bytes_eq-Decides kind (word_of_kind head.kind)).0 two.0 in
-    let sender : from ≡ head.from = (bytes_eq-Decides from head.from).0 two.1 in
-    let receiver : to ≡ head.to = (bytes_eq-Decides to head.to).0 both.1 in
+    let sender : from ≡ text_of_name head.from = (bytes_eq-Decides from (text_of_name head.from)).0 two.1 in
+    let receiver : to ≡ text_of_name head.to = (bytes_eq-Decides to (text_of_name head.to)).0 both.1 in
     (refl, rw (one, sender, receiver) refl)
+
+-- a word that is taken as it is
+any_taken : (texts : List (List ℕ)) (taken : List ℕ × List (List ℕ)) → first_as Some texts ≡ Some taken → texts ≡ taken.0 ∷ taken.1
+any_taken texts taken is =
+    let first = first_taken Some texts taken is in
+    let word : first.0 ≡ taken.0 = some_same first.0 taken.0 first.2 in
+    first.1 ∙ ap (λ w. w ∷ taken.1) word
+  where
+    some_same : (x y : List ℕ) → Some x ≡ Some y → x ≡ y
+    some_same x y is = cc
 
 checked_back : (here : Bool) (made found : Line) (texts : List (List ℕ)) → (if here then only made texts else None) ≡ Some found
     → (here ≡ true) × (texts ≡ []) × (made ≡ found)
@@ -294,23 +304,18 @@ sent_back p carrier texts found small read =
     let d = and_then-back _ _ found c.2 in
     let e = and_then-back _ _ found d.2 in
     let first = number_taken (2 ^ 32) texts a.0 a.1 in
-    let kind = first_taken Some a.0.1 b.0 b.1 in
-    let word : kind.0 ≡ b.0.0 = some_same kind.0 b.0.0 kind.2 in
-    let second : a.0.1 ≡ b.0.0 ∷ b.0.1 = kind.1 ∙ ap (λ w. w ∷ b.0.1) word in
-    let third = name_taken p b.0.1 c.0 small c.1 in
-    let fourth = name_taken p c.0.1 d.0 small d.1 in
+    let second = any_taken a.0.1 b.0 b.1 in
+    let third = any_taken b.0.1 c.0 c.1 in
+    let fourth = any_taken c.0.1 d.0 d.1 in
     let fifth = hex_taken d.0.1 e.0 e.1 in
     let made = line.Whole (item.Sent a.0.0 e.0.0) in
     let last = checked_back (is_head p e.0.0 b.0.0 c.0.0 d.0.0) made found e.0.1 e.2 in
     let head = head_back (head_of p e.0.0) b.0.0 c.0.0 d.0.0 e.0.0 last.0 in
     let told = head.1 in
     let none = last.1 in
-    let rest : a.0.1 ≡ b.0.0 ∷ text_of_name c.0.0 ∷ text_of_name d.0.0 ∷ encode_lower e.0.0 ∷ [] =
-    cc (second, third.0, fourth.0, fifth.0, none) in
+    let rest : a.0.1 ≡ b.0.0 ∷ c.0.0 ∷ d.0.0 ∷ encode_lower e.0.0 ∷ [] =
+    cc (second, third, fourth, fifth.0, none) in
     let whole : codes "sent" ∷ texts ≡ codes "sent" ∷ decimal a.0.0 ∷ words_of_head (head_of p e.0.0) e.0.0 =
     ap (λ l. codes "sent" ∷ l) (first.0 ∙ ap (λ l. decimal a.0.0 ∷ l) (rest ∙ told)) in
     let is : IsSent p e.0.0 = record { each = fifth.1; head = head.0 } in
     spelled p carrier (codes "sent" ∷ texts) made found last.2 (whole, (first.1, is))
-  where
-    some_same : (x y : List ℕ) → Some x ≡ Some y → x ≡ y
-    some_same x y is = cc

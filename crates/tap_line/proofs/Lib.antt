@@ -1,3 +1,5 @@
+mod Bytes
+mod Decimals
 mod Rests
 mod Taken
 mod Plain
@@ -6,12 +8,16 @@ mod Joins
 mod Feeds
 mod PlainLines
 mod Hexes
+mod Loose
 mod Told
 mod Back
 mod BackTables
 mod Codes
 mod BackParts
-mod Heads
 mod BackRest
 mod ToldParts
 mod Exact
+mod Alike
+mod Gathered
+mod Sent
+mod Answered

@@ -85,7 +85,7 @@ hex_digit : (digit : ℕ) → digit < 16 → IsTrue (is_plain (slice_index lower
 hex_digit digit small =
     subst (λ byte. IsTrue (is_plain byte)) (lower_digit digit small) (All-head (λ byte. IsTrue (is_plain byte)) (text_of_digit digit) [] (digit_plain digit))
 
-hex_plain : (bytes : List ℕ) → AreBytes bytes → IsPlain (encode_lower bytes)
+pub hex_plain : (bytes : List ℕ) → AreBytes bytes → IsPlain (encode_lower bytes)
 unfolding encode_with
 hex_plain [] are = no_word_plain
 hex_plain (byte ∷ bytes) are =

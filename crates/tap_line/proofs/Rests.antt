@@ -1,16 +1,16 @@
 -- the words that are left, and their text
-use Rattle.std.proofs.Common.{◌≡◌, ◌==◌, ℕ, ◌≤◌, Bool, false, bytes_eq, List, [], ◌∷◌, Some, ap, sym, subst, ◌∙◌, inl, inr}
+use Rattle.std.proofs.Common.{◌≡◌, ◌==◌, ℕ, ◌<◌, ◌≤◌, Bool, false, bytes_eq, arith, List, [], ◌∷◌, length, Some, ap, sym, subst, ◌∙◌, inl, inr}
 use Rattle.std.specs.List.{AllByRecursion, join_with_byte, onto_first}
 use Rattle.std.proofs.lemmas.Bool.{cases_Bool}
 use Rattle.std.proofs.lemmas.List.Elements.{All-cons, All-nil}
-use Rattle.std.proofs.lemmas.List.Splits.{slice_split-cons_no, slice_split-cons_yes}
+use Rattle.std.proofs.lemmas.List.Splits.{join_with_byte-slice_split, length-slice_split, slice_split-cons_no, slice_split-cons_yes}
 use Rattle.std.proofs.lemmas.Slice.Eq.{bytes_eq-Decides}
 use Rattle.tap_name.specs.Settings.{SettingsValue}
 use Rattle.tap_scenario.specs.Step.{IsStep, step_of_text, step_of_words, text_of_step}
 use Rattle.tap_scenario.specs.Words.{HasNoSpace, words}
 use Rattle.tap_scenario.specs.declared.step.Step.{Step}
 use Rattle.tap_scenario.proofs.StepTexts.{step_of_text-back}
-use Rattle.tap_line.specs.Front.{told}
+use Rattle.tap_line.specs.Front.{is_rest, told}
 use Rattle.tap_scenario.proofs.Splits.{words-join}
 
 -- ---- words without spaces
@@ -32,6 +32,16 @@ words_unspaced (byte ∷ text) =
           subst (AllByRecursion HasNoSpace) (sym (slice_split-cons_no (λ b. b == 32) byte text other))
           (onto_unspaced byte (words text) other (words_unspaced text))
     ]
+
+joined_rest : (phrase text : List ℕ) (texts : List (List ℕ)) → 0 < length texts → join_with_byte 32 texts ≡ text
+    → is_rest phrase texts ≡ bytes_eq text phrase
+joined_rest phrase text [] some whole = absurd (omega (arith, some))
+joined_rest phrase text (first ∷ texts) some whole = ap (λ t. bytes_eq t phrase) whole
+
+-- the words of a text are this, with a space between them, exactly if the text is
+pub is_rest-words : (phrase text : List ℕ) → is_rest phrase (words text) ≡ bytes_eq text phrase
+is_rest-words phrase text =
+    joined_rest phrase text (words text) (omega (arith, length-slice_split (λ byte. byte == 32) text)) (join_with_byte-slice_split 32 text)
 
 -- words that are this, with a space between them, are its words
 pub told_taken : {A : Type 0} (phrase : List ℕ) (value other : A) (texts : List (List ℕ)) → AllByRecursion HasNoSpace texts

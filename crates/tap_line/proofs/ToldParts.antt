@@ -26,7 +26,6 @@ use Rattle.tap_line.specs.declared.refusals.RefusalKind.TheVariants.{NoSuchNode,
 use Rattle.tap_line.specs.Refusal.{counted, departing_of_words, refusal_of_kind, refusal_of_words, refused_of_words}
 use Rattle.tap_line.proofs.BackParts.{bad_words, counted_words, departing_words, one_words}
 use Rattle.tap_line.proofs.Codes.{code_chosen, code_text, number_of}
-use Rattle.tap_line.proofs.Heads.{head_named}
 use Rattle.tap_line.proofs.Hexes.{hex_told}
 use Rattle.tap_line.proofs.Spelling.{words_of_head}
 use Rattle.tap_line.proofs.Taken.{number_told}
@@ -130,16 +129,13 @@ sent_by : (p : SettingsValue) (number : ℕ) (bytes : List ℕ) (read : Result H
     → sent_of_words p (decimal number ∷ words_of_head read bytes) ≡ Some (line.Whole (item.Sent number bytes))
 sent_by p number bytes (Err fault) small is sent head ok = absurd (cc)
 sent_by p number bytes (Ok head) small is sent said ok =
-    let names = head_named p bytes head said in
     let first = small_told number is in
-    let second = name_of_word-text p head.from small names.from in
-    let third = name_of_word-text p head.to small names.to in
     let fourth = hex_told bytes sent.each in
     let kind = same_bytes (word_of_kind head.kind) in
-    let from = same_bytes head.from in
-    let to = same_bytes head.to in
-    let holds : is_head p bytes (word_of_kind head.kind) head.from head.to ≡ true = rw (said, kind, from, to) refl in
-    rw (first, second, third, fourth, holds) refl
+    let from = same_bytes (text_of_name head.from) in
+    let to = same_bytes (text_of_name head.to) in
+    let holds : is_head p bytes (word_of_kind head.kind) (text_of_name head.from) (text_of_name head.to) ≡ true = rw (said, kind, from, to) refl in
+    rw (first, fourth, holds) refl
 
 pub sent_told : (p : SettingsValue) (number : ℕ) (bytes : List ℕ) → p.base ≤ 16 → number < 2 ^ 32 → IsSent p bytes
     → sent_of_words p (decimal number ∷ words_of_head (head_of p bytes) bytes) ≡ Some (line.Whole (item.Sent number bytes))

@@ -1,5 +1,6 @@
 pub mod Line
 pub mod Front
+pub mod Hexadecimal
 pub mod Kind
 pub mod Fault
 pub mod Refusal

@@ -1,6 +1,7 @@
 -- The line that words are, kind by kind.
 use Rattle.std.specs.Prelude.{◌==◌, ℕ, ◌^◌, nat_le, Bool, true, false, ◌&&◌, if◌then◌else◌, List, [], ◌∷◌, length, bytes_eq, codes, Option, None, Some, option_map, option_and_then, Result, Ok, Err}
 use Rattle.tap_name.specs.Settings.{SettingsValue}
+use Rattle.tap_name.specs.Name.{text_of_name}
 use Rattle.tap_scenario.specs.Step.{only, step_of_words}
 use Rattle.tap_scenario.specs.Words.{words}
 use Rattle.tap_wire.specs.Reading.{head_of}
@@ -209,20 +210,25 @@ packet_of_words =
     number (2 ^ 32) >>= λ packet. one_of word_of_load loads >>= λ ack. number (2 ^ 32) >>= λ frame.
     only (line.Whole (item.Packet packet frame ack))
 
--- whether a head is read, and says this
+-- whether a head is read, and its words are these
 abbrev pub has_head : Result Head HeadFault → List ℕ → List ℕ → List ℕ → Bool
-has_head (Ok head) kind from to = bytes_eq kind (word_of_kind head.kind) && bytes_eq from head.from && bytes_eq to head.to
+has_head (Ok head) kind from to =
+    bytes_eq kind (word_of_kind head.kind) && bytes_eq from (text_of_name head.from) && bytes_eq to (text_of_name head.to)
 has_head (Err fault) kind from to = false
 
--- whether the head of these bytes is read, and says this
+-- whether the head of these bytes is read, and its words are these
 abbrev pub is_head : SettingsValue → List ℕ → List ℕ → List ℕ → List ℕ → Bool
 is_head p bytes kind from to = has_head (head_of p bytes) kind from to
+
+-- the last word of a frame that is sent: its bytes, whose head has these words
+abbrev pub bytes_of_sent : SettingsValue → ℕ → List ℕ → List ℕ → List ℕ → List (List ℕ) → Option Line
+bytes_of_sent p sent kind from to =
+    hex >>= λ bytes. λ words. if is_head p bytes kind from to then only (line.Whole (item.Sent sent bytes)) words else None
 
 -- a frame that is sent, after the first word
 abbrev pub sent_of_words : SettingsValue → List (List ℕ) → Option Line
 sent_of_words p =
-    number (2 ^ 32) >>= λ sent. first_as Some >>= λ kind. name p >>= λ from. name p >>= λ to. hex >>= λ bytes.
-    λ words. if is_head p bytes kind from to then only (line.Whole (item.Sent sent bytes)) words else None
+    number (2 ^ 32) >>= λ sent. first_as Some >>= λ kind. first_as Some >>= λ from. first_as Some >>= λ to. bytes_of_sent p sent kind from to
 
 -- the parts of a cast, after the first word
 abbrev pub cast_of_words : SettingsValue → List (List ℕ) → Option CastParts

@@ -1,15 +1,29 @@
-//! Lines of the long text of a log, and that each is read back, as definitions, and laws over them.
+//! Lines of the long text of a log, each of which is read back exactly.
 //!
-//! No code is here but the types that the definitions name. `specs/Line.antt` has the text of each line and which lines there are, and
-//! `specs/Reading.antt` the line that the words of a text are; each function states what holds of both.
+//! `specs/Line.antt` has the text of each line and which lines there are, and `specs/Reading.antt` the line that the words of a text are;
+//! `read_line` reads it. The functions of `law.rt` state what holds of both.
 #![tactic(auto)]
 
+mod fault;
 mod frames;
+mod hexadecimal;
 mod kind;
 mod law;
 mod line;
+mod lookups;
+mod names;
+mod numbers;
+mod openings;
 mod paths;
+mod reading;
 mod refusals;
+mod same;
+mod tables;
+mod taking;
+#[cfg(test)]
+mod tests;
 
+pub use fault::LineFault;
 pub use law::{line_law, reading_law};
 pub use line::{Beginning, Line};
+pub use reading::{read_begin, read_line};
