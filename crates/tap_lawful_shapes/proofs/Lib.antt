@@ -1,0 +1,15 @@
+mod Bytes
+mod Faults
+mod Near
+mod Seen
+mod Refused
+mod Spelled
+mod Asked
+mod Groups
+mod Uncarried
+mod Carried
+mod Told
+mod Roots
+mod Packets
+mod Whole
+mod Ends
