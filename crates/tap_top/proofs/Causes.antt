@@ -1,6 +1,7 @@
 -- Why the top call ends as it does, and what follows of its log.
 use Rattle.std.proofs.Common.{◌≡◌, ◌≢◌, ◌⊎◌, inl, inr, Bool, true, false, List, [], ◌∷◌, length, Option, None, Some, refl, ap, sym, subst, ◌∙◌, ℕ}
 use Rattle.std.specs.Prelude.{◌↔◌, IfSome, IsSome, IsTrue, MatchOption}
+use Rattle.tap_io.specs.AllBytes.{HasReadTooMany}
 use Rattle.tap_io.specs.Source.{SourceState}
 use Rattle.tap_scenario.specs.Scenario.{CanBePlayed, IsScript, ScenarioValue}
 use Rattle.tap_scenario.specs.declared.fault.Fault.{Fault}
@@ -23,7 +24,8 @@ use Rattle.tap_top.specs.declared.status.Status.TheVariants.{Done, Usage, TooLon
 use Rattle.tap_top.specs.Ending.{HasCause, HasCauseOf, HasRun, HasRunAs, HasRunOf, LeavesWorld, log_of}
 use Rattle.tap_top.specs.AskedLog.{HasRunAll, HasRunShort, IsLogAsked, ends_spent}
 use Rattle.tap_bounds_runs.proofs.CarriedEnough.{runs_are_never_spent}
-use Rattle.tap_top.specs.Reading.{HasReadFault, HasReadScript, HasReadTooMany}
+use Rattle.tap_top.specs.Limits.{most_bytes}
+use Rattle.tap_top.specs.Reading.{HasReadFault, HasReadScript}
 use Rattle.tap_top.specs.Status.{status_of_end}
 use Rattle.tap_top.specs.Wanted.{IsNotHad, IsUnread, IsWanted}
 use Rattle.tap_top.proofs.Consumed.{script_read}
@@ -180,7 +182,7 @@ done_nodes None old new (Some world) cause = absurd (refused_so Done cause.2 (λ
 done_nodes (Some asked) old new (Some world) cause = left_nodes cause.script.carrier cause.script end.Done world cause.ended refl
 
 pub read_too_many : (asked : Option Asked) (old new : SourceState) (world : Option WorldValue) → HasCause asked old new world TooLong
-    → HasReadTooMany old new
+    → HasReadTooMany most_bytes old new
 read_too_many None old new world cause = absurd (refused_so TooLong cause.2 (λ is. cc) (λ is. cc))
 read_too_many (Some asked) old new world cause =
     elim (ran_or_unread asked old new world TooLong cause (λ is. cc)) [ inl unread ↦ unread | inr ran ↦ absurd ran.run.ended ]

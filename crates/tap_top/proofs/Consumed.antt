@@ -2,6 +2,7 @@
 use Rattle.std.proofs.Common.{◌≡◌, ◌≢◌, ◌+◌, ◌⊎◌, ℕ, List, [], Option, None, Some, inl, inr, refl, sym, subst, arith}
 use Rattle.std.specs.Prelude.{MatchOption}
 use Rattle.std.proofs.KnownBytes.{Consumes-nil}
+use Rattle.tap_io.specs.AllBytes.{HasReadAll, HasReadAtMost, HasReadUntilFault, HasReadWithoutFault}
 use Rattle.tap_io.specs.Source.{SourceState}
 use Rattle.tap_scenario.specs.Scenario.{ScenarioValue}
 use Rattle.tap_make.specs.Made.{made}
@@ -11,14 +12,14 @@ use Rattle.tap_top.specs.declared.status.Status.{Status}
 use Rattle.tap_top.specs.declared.status.Status.TheVariants.{Done, Usage, TooLong, NotScenario, ReadFault, WriteFault, Spent, NoMemory}
 use Rattle.tap_top.specs.Ending.{HasCause, HasCauseOf, HasRunAs}
 use Rattle.tap_top.specs.Limits.{most_bytes}
-use Rattle.tap_top.specs.Reading.{HasReadAll, HasReadAtMost, HasReadScript, HasReadUntilFault, HasReadWithoutFault}
+use Rattle.tap_top.specs.Reading.{HasReadScript}
 use Rattle.tap_top.specs.Wanted.{IsNotHad, IsUnread, IsWanted}
 
 -- what a status says of the reading, whichever it is
 pub record HasReadFor (old new : SourceState) (status : Status) : Type 0 where
   pub read : HasReadAtMost (most_bytes + 1) old new
-  pub failed : status ≡ ReadFault → HasReadUntilFault old new
-  pub no_memory : status ≡ NoMemory → HasReadWithoutFault old new
+  pub failed : status ≡ ReadFault → HasReadUntilFault most_bytes old new
+  pub no_memory : status ≡ NoMemory → HasReadWithoutFault most_bytes old new
   pub unfailed : status ≢ ReadFault → new.faults ≡ old.faults
 
 one_more : (old new : SourceState) → HasReadAtMost most_bytes old new → HasReadAtMost (most_bytes + 1) old new
@@ -26,7 +27,7 @@ one_more old new read = record { bytes = read.bytes; within = omega (arith, read
 
 -- ---- without a fault
 
-well : (old new : SourceState) (status : Status) → HasReadWithoutFault old new → status ≢ ReadFault → HasReadFor old new status
+well : (old new : SourceState) (status : Status) → HasReadWithoutFault most_bytes old new → status ≢ ReadFault → HasReadFor old new status
 well old new status read other = record {
   read = one_more old new read.read;
   failed = λ is. absurd (other is);
@@ -34,26 +35,26 @@ well old new status read other = record {
   unfailed = λ is. read.faults;
 }
 
-untouched : (old new : SourceState) → new ≡ old → HasReadWithoutFault old new
-untouched old new is = subst (HasReadWithoutFault old) (sym is) (record {
+untouched : (old new : SourceState) → new ≡ old → HasReadWithoutFault most_bytes old new
+untouched old new is = subst (HasReadWithoutFault most_bytes old) (sym is) (record {
   read = record { bytes = []; within = omega arith; consumes = Consumes-nil old.left };
   faults = refl;
 })
 
-pub all_read : (old new : SourceState) (bytes : List ℕ) → HasReadAll old new bytes → HasReadWithoutFault old new
+pub all_read : (old new : SourceState) (bytes : List ℕ) → HasReadAll most_bytes old new bytes → HasReadWithoutFault most_bytes old new
 all_read old new bytes all = record {
   read = record { bytes = bytes; within = all.within; consumes = all.consumes };
   faults = all.faults;
 }
 
-pub script_read : (old new : SourceState) (s : ScenarioValue) → HasReadScript old new s → HasReadWithoutFault old new
+pub script_read : (old new : SourceState) (s : ScenarioValue) → HasReadScript old new s → HasReadWithoutFault most_bytes old new
 script_read old new s script = all_read old new script.bytes script.read
 
-wanted_read : (asked : Asked) (old new : SourceState) (s : ScenarioValue) → IsWanted asked old new s → HasReadWithoutFault old new
+wanted_read : (asked : Asked) (old new : SourceState) (s : ScenarioValue) → IsWanted asked old new s → HasReadWithoutFault most_bytes old new
 wanted_read asked old new s wanted = by_make asked.make wanted
   where
     by_make : (make : Option ℕ) → MatchOption make (HasReadScript old new s) (λ joins. (s ≡ made joins asked.seed) × (new ≡ old))
-        → HasReadWithoutFault old new
+        → HasReadWithoutFault most_bytes old new
     by_make None script = script_read old new s script
     by_make (Some joins) is = untouched old new is.1
 
@@ -90,7 +91,7 @@ not_had_so asked old new status not_had = by_make asked.make not_had
         subst (HasReadFor old new) (sym refused.0) (well old new NoMemory (untouched old new refused.1) (λ is. cc))
 
 run_so : (old new : SourceState) (s : ScenarioValue) (status : Status) (world : WorldValue) → HasRunAs s status world
-    → HasReadWithoutFault old new → HasReadFor old new status
+    → HasReadWithoutFault most_bytes old new → HasReadFor old new status
 run_so old new s status world run read = well old new status read (λ is. subst (λ other. HasRunAs s other world) is run)
 
 cause_so : (asked : Asked) (old new : SourceState) (world : Option WorldValue) (status : Status) → HasCauseOf asked old new world status

@@ -1,5 +1,6 @@
 -- What the words of a command line have run, and what is printed of its log. The states of the source were `old` and are `new`.
 use Rattle.std.specs.Prelude.{◌≡◌, ◌≤◌, if◌then◌else◌, is_some, IfSome, MatchOption}
+use Rattle.tap_io.specs.AllBytes.{HasReadTooMany, HasReadUntilFault, HasReadWithoutFault}
 use Rattle.tap_io.specs.Source.{SourceState}
 use Rattle.tap_scenario.specs.Scenario.{ScenarioValue}
 use Rattle.tap_make.specs.Made.{made}
@@ -9,7 +10,8 @@ use Rattle.tap_words.specs.Words.{most_joins}
 use Rattle.tap_words.specs.declared.asked.Asked.{Asked}
 use Rattle.tap_top.specs.declared.status.Status.{Status}
 use Rattle.tap_top.specs.declared.status.Status.TheVariants.{Done, Usage, TooLong, NotScenario, ReadFault, WriteFault, Spent, NoMemory}
-use Rattle.tap_top.specs.Reading.{HasReadFault, HasReadScript, HasReadTooMany, HasReadUntilFault, HasReadWithoutFault}
+use Rattle.tap_top.specs.Limits.{most_bytes}
+use Rattle.tap_top.specs.Reading.{HasReadFault, HasReadScript}
 
 -- what is printed: of a scenario that is made the summary, and else the brief or the long text
 abbrev pub mode_of : Asked → Mode
@@ -26,10 +28,10 @@ IsWanted asked old new script = MatchOption asked.make (HasReadScript old new sc
 
 -- why no scenario was read; if one was read or nothing was tried, there is no such reason
 abbrev pub IsUnread : SourceState → SourceState → Status → Type 0
-IsUnread old new ReadFault = HasReadUntilFault old new
-IsUnread old new TooLong = HasReadTooMany old new
+IsUnread old new ReadFault = HasReadUntilFault most_bytes old new
+IsUnread old new TooLong = HasReadTooMany most_bytes old new
 IsUnread old new (NotScenario fault) = HasReadFault old new fault
-IsUnread old new NoMemory = HasReadWithoutFault old new
+IsUnread old new NoMemory = HasReadWithoutFault most_bytes old new
 IsUnread old new Done = ⊥
 IsUnread old new Usage = ⊥
 IsUnread old new WriteFault = ⊥

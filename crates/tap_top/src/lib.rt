@@ -8,7 +8,6 @@
 #![tactic(auto)]
 
 mod fault_line;
-mod memory;
 mod printing;
 mod reading;
 mod running;

@@ -2,6 +2,7 @@ ghost use Rattle.std.specs.Prelude.{◌≡◌, ◌≢◌, ◌↔◌, ◌⊎◌, 
 ghost use Rattle.std.specs.String.{string_bytes};
 ghost use Rattle.tap_engine.specs.Kinds.{is_finished};
 ghost use Rattle.tap_engine.specs.World.{HasNodesOfLog, whole_log};
+ghost use Rattle.tap_io.specs.AllBytes.{HasReadAtMost, HasReadTooMany, HasReadUntilFault, HasReadWithoutFault};
 ghost use Rattle.tap_io.specs.Faults.{HasRisen};
 ghost use Rattle.tap_lawful.specs.Runs.{IsLawful};
 ghost use Rattle.tap_replay.specs.Runs.{HasPlayed};
@@ -12,7 +13,7 @@ ghost use Rattle.tap_top.specs.Ending.{HasCause, HasCauseOf, HasRunAs, HasRunOf,
 ghost use Rattle.tap_top.specs.FaultLine.{fault_line};
 ghost use Rattle.tap_top.specs.AskedLog.{HasRunAll, HasRunShort, IsLogAsked, ends_spent};
 ghost use Rattle.tap_top.specs.Limits.{most_bytes};
-ghost use Rattle.tap_top.specs.Reading.{HasReadAtMost, HasReadFault, HasReadTooMany, HasReadUntilFault, HasReadWithoutFault};
+ghost use Rattle.tap_top.specs.Reading.{HasReadFault};
 ghost use Rattle.tap_top.specs.Wanted.{AsksWithin, mode_of};
 ghost use Rattle.tap_words.specs.Words.{asked_by};
 
@@ -183,8 +184,8 @@ pub fn run<S: Source, K: Sink>(
         (λ asked. HasRunShort asked (S.state source.old) (S.state source.new) result.world) }
     ensures finished { (result.before ≡ Status.Done) ↔ IsTrue (is_finished (log_of result.world)) }
     ensures spent { (result.before ≡ Status.Spent) ↔ IsTrue (ends_spent (log_of result.world)) }
-    ensures read_fault { result.before ≡ Status.ReadFault → HasReadUntilFault (S.state source.old) (S.state source.new) }
-    ensures too_long { result.before ≡ Status.TooLong → HasReadTooMany (S.state source.old) (S.state source.new) }
+    ensures read_fault { result.before ≡ Status.ReadFault → HasReadUntilFault most_bytes (S.state source.old) (S.state source.new) }
+    ensures too_long { result.before ≡ Status.TooLong → HasReadTooMany most_bytes (S.state source.old) (S.state source.new) }
     ensures not_scenario { (fault : Fault) → result.before ≡ Status.NotScenario fault
         → HasReadFault (S.state source.old) (S.state source.new) fault }
     ensures write_fault { result.status ≡ Status.WriteFault → HasRisen (K.state sink.old).faults (K.state sink.new).faults }
@@ -193,7 +194,7 @@ pub fn run<S: Source, K: Sink>(
     // No more is read than one byte past the limit of a text, and no byte past it unless the text is too long. A read that fails ends the reading:
     // the source counts a fault exactly if the status is `ReadFault`.
     ensures read { HasReadAtMost (most_bytes + 1) (S.state source.old) (S.state source.new) }
-    ensures no_memory { result.before ≡ Status.NoMemory → HasReadWithoutFault (S.state source.old) (S.state source.new) }
+    ensures no_memory { result.before ≡ Status.NoMemory → HasReadWithoutFault most_bytes (S.state source.old) (S.state source.new) }
     ensures unfailed { result.before ≢ Status.ReadFault → (S.state source.new).faults ≡ (S.state source.old).faults }
 
     // The source isn't touched if the words are refused, or ask for a scenario to be made.

@@ -1,16 +1,15 @@
 ghost use Rattle.std.specs.Prelude.{◌≡◌, ◌≤◌, IfOk, IfErr};
 ghost use Rattle.tap_make.specs.Made.{made};
 ghost use Rattle.tap_scenario.specs.Scenario.{CanBePlayed, IsScript};
-ghost use Rattle.tap_top.specs.Reading.{HasReadScript};
-ghost use Rattle.tap_top.specs.Wanted.{AsksWithin, IsNotHad, IsUnread, IsWanted, mode_of};
+ghost use Rattle.tap_top.specs.Wanted.{AsksWithin, IsNotHad, IsWanted, mode_of};
 
-use crate::reading::{Unread, read_all};
+use crate::reading::read_scenario;
 use crate::status::Status;
 use std::alloc::Global;
 use tap_io::Source;
 use tap_make::{NoMemory, make};
 use tap_report::Mode;
-use tap_scenario::{ReadRefusal, Scenario, read};
+use tap_scenario::Scenario;
 use tap_words::Asked;
 
 // What is printed of the log.
@@ -54,25 +53,5 @@ fn make_scenario(alloc: Global, joins: u32, seed: u64) -> Result<Scenario, Statu
     match make(alloc, joins, seed) {
         Ok(scenario) => Ok(scenario),
         Err(NoMemory) => Err(Status::NoMemory),
-    }
-}
-
-// The scenario that all bytes of a source spell.
-fn read_scenario<S: Source>(alloc: Global, source: &mut S) -> Result<Scenario, Status>
-    ensures script { IfOk result (HasReadScript (S.state source.old) (S.state source.new)) }
-    ensures valid { IfOk result IsScript }
-    ensures played { IfOk result CanBePlayed }
-    ensures unread { IfErr result (IsUnread (S.state source.old) (S.state source.new)) }
-{
-    let bytes = match read_all(alloc, source) {
-        Ok(bytes) => bytes,
-        Err(Unread::Failed) => return Err(Status::ReadFault),
-        Err(Unread::TooLong) => return Err(Status::TooLong),
-        Err(Unread::NoMemory) => return Err(Status::NoMemory),
-    };
-    match read(alloc, bytes.as_slice()) {
-        Ok(scenario) => Ok(scenario),
-        Err(ReadRefusal::Fault(fault)) => Err(Status::NotScenario(fault)),
-        Err(ReadRefusal::NoMemory) => Err(Status::NoMemory),
     }
 }
