@@ -3,7 +3,7 @@ use Rattle.std.proofs.Common.{◌≡◌, ◌≢◌, ◌⊎◌, inl, inr, Bool, t
 use Rattle.std.specs.Prelude.{◌↔◌, IfSome, IsSome, IsTrue, MatchOption}
 use Rattle.tap_io.specs.AllBytes.{HasReadTooMany}
 use Rattle.tap_io.specs.Source.{SourceState}
-use Rattle.tap_scenario.specs.Scenario.{CanBePlayed, IsScript, ScenarioValue}
+use Rattle.tap_scenario.specs.Scenario.{IsScript, ScenarioValue}
 use Rattle.tap_scenario.specs.declared.fault.Fault.{Fault}
 use Rattle.tap_log.specs.declared.record.Record.{Record}
 use Rattle.tap_log.specs.declared.record.Record.TheVariants.{Spent as SpentRecord, Finished}
@@ -14,7 +14,7 @@ use Rattle.tap_engine.specs.Kinds.{finishes_run, is_finished}
 use Rattle.tap_engine.specs.World.{HasNodesOfLog, WorldValue, whole_log}
 use Rattle.tap_lawful.specs.Runs.{IsLawful, IsRunLog}
 use Rattle.tap_headline.proofs.Runs.{run_logs_are_printed, run_logs_end_so, run_logs_follow, run_logs_have_headline}
-use Rattle.tap_replay.specs.Runs.{HasNoRootSets, LeavesWorld as RunLeaves}
+use Rattle.tap_replay.specs.Runs.{LeavesWorld as RunLeaves}
 use Rattle.tap_replay.specs.declared.end.End.{End}
 use Rattle.tap_replay.specs.declared.end.End.TheVariants as end
 use Rattle.tap_report.specs.Text.{IsPrintableLog}
@@ -29,7 +29,7 @@ use Rattle.tap_top.specs.Reading.{HasReadFault, HasReadScript}
 use Rattle.tap_top.specs.Status.{status_of_end}
 use Rattle.tap_top.specs.Wanted.{IsNotHad, IsUnread, IsWanted}
 use Rattle.tap_top.proofs.Consumed.{script_read}
-use Rattle.tap_top.proofs.Left.{left_done, left_going, left_log, left_spent}
+use Rattle.tap_replay.proofs.Left.{left_done, left_going, left_log, left_spent}
 use Rattle.tap_replay.proofs.ByCarrier.{left_nodes}
 use Rattle.tap_replay.proofs.Running.{unfinished}
 
@@ -51,11 +51,11 @@ memory_alone asked old new s wanted = by_make asked.make wanted
 
 -- a run that was had
 pub cause_of_run : (asked : Asked) (old new : SourceState) (s : ScenarioValue) (world : Option WorldValue) (status : Status) → IsScript s
-    → CanBePlayed s → IsWanted asked old new s → HasRunOf s status world → HasCauseOf asked old new world status
-cause_of_run asked old new s None status valid plays wanted memory =
+    → IsWanted asked old new s → HasRunOf s status world → HasCauseOf asked old new world status
+cause_of_run asked old new s None status valid wanted memory =
     subst (IsNotHad asked old new) (sym memory) (memory_alone asked old new s wanted)
-cause_of_run asked old new s (Some world) status valid plays wanted run =
-    record { script = s; valid = valid; plays = plays; wanted = wanted; ended = run }
+cause_of_run asked old new s (Some world) status valid wanted run =
+    record { script = s; valid = valid; wanted = wanted; ended = run }
 
 -- a world is left by a run, and none if no scenario was had
 pub leaves_some : (s : ScenarioValue) (status : Status) (played world : WorldValue) → HasRunAs s status played
@@ -119,7 +119,7 @@ module _ (asked : Asked) (old new : SourceState) where
     | inl never ↦ absurd never
     | inr ran ↦
         let run = ran.run in
-        let ended = left_done run.script run.valid run.plays.steps ran.left run.ended in
+        let ended = left_done run.script run.valid ran.left run.ended in
         record {
           script = run.script;
           valid = run.valid;
@@ -136,7 +136,7 @@ module _ (asked : Asked) (old new : SourceState) where
     | inl never ↦ absurd never
     | inr ran ↦
         let run = ran.run in
-        let ended = left_spent run.script run.valid run.plays.steps ran.left run.ended in
+        let ended = left_spent run.script run.valid ran.left run.ended in
         record {
           script = run.script;
           valid = run.valid;
@@ -224,22 +224,21 @@ source_untouched (Some asked) old new world status cause = made_untouched asked 
 
 -- ---- the log
 
-run_log : (s : ScenarioValue) (status : Status) (world : WorldValue) → IsScript s → HasNoRootSets s → HasRunAs s status world → IsRunLog s (whole_log world)
-run_log s Done world valid plays left = left_log s valid plays world end.Done left
-run_log s Spent world valid plays left = left_log s valid plays world end.Spent left
-run_log s NoMemory world valid plays left = left_log s valid plays world end.NoMemory left
-run_log s other world valid plays left = absurd left
+run_log : (s : ScenarioValue) (status : Status) (world : WorldValue) → IsScript s → HasRunAs s status world → IsRunLog s (whole_log world)
+run_log s Done world valid left = left_log s valid world end.Done left
+run_log s Spent world valid left = left_log s valid world end.Spent left
+run_log s NoMemory world valid left = left_log s valid world end.NoMemory left
+run_log s other world valid left = absurd left
 
 -- what a run leaves has the headline
 run_asked : (asked : Asked) (old new : SourceState) (status : Status) (world : WorldValue) → HasRun asked old new status world
     → IsLogAsked asked old new (whole_log world)
 run_asked asked old new status world ran =
     let log = whole_log world in
-    let run = run_log ran.script status world ran.valid ran.plays.steps ran.ended in
+    let run = run_log ran.script status world ran.valid ran.ended in
     record {
       script = ran.script;
       valid = ran.valid;
-      plays = ran.plays;
       wanted = ran.wanted;
       run = run;
       follows = run_logs_follow ran.script log ran.valid run;
@@ -332,21 +331,21 @@ none_last asked old new TooLong not_had = last_none [] refl
 none_last asked old new ReadFault not_had = last_none [] refl
 
 -- that of a run has the end that the status says
-run_last : (s : ScenarioValue) (status : Status) (world : WorldValue) → IsScript s → HasNoRootSets s → HasRunAs s status world
+run_last : (s : ScenarioValue) (status : Status) (world : WorldValue) → IsScript s → HasRunAs s status world
     → HasLast (whole_log world) (is_done status) (stopped_spent status)
-run_last s Done world valid plays left =
-    let ended = left_done s valid plays world left in
+run_last s Done world valid left =
+    let ended = left_done s valid world left in
     last_finished (whole_log world) (length s.steps) (run_logs_end_so.finished s ended.0 (whole_log world) valid ended.1 ended.2).last
-run_last s Spent world valid plays left =
-    let ended = left_spent s valid plays world left in
+run_last s Spent world valid left =
+    let ended = left_spent s valid world left in
     last_spent (whole_log world) s.frames (run_logs_end_so.spent s ended.0 (whole_log world) ended.1 ended.2)
-run_last s NoMemory world valid plays left = last_none (whole_log world) (left_going s valid plays world left)
-run_last s other world valid plays left = absurd left
+run_last s NoMemory world valid left = last_none (whole_log world) (left_going s valid world left)
+run_last s other world valid left = absurd left
 
 caused_last : (asked : Asked) (old new : SourceState) (world : Option WorldValue) (status : Status) → HasCauseOf asked old new world status
     → HasLast (log_of world) (is_done status) (stopped_spent status)
 caused_last asked old new None status cause = none_last asked old new status cause
-caused_last asked old new (Some world) status cause = run_last cause.script status world cause.valid cause.plays.steps cause.ended
+caused_last asked old new (Some world) status cause = run_last cause.script status world cause.valid cause.ended
 
 pub log_last : (asked : Option Asked) (old new : SourceState) (world : Option WorldValue) (status : Status) → HasCause asked old new world status
     → HasLast (log_of world) (is_done status) (stopped_spent status)

@@ -2,5 +2,4 @@ mod Flushing
 mod Texts
 mod Turning
 mod Consumed
-mod Left
 mod Causes

@@ -10,7 +10,7 @@ use Rattle.tap_log.specs.declared.record.Record.TheVariants.{Spent as SpentRecor
 use Rattle.tap_log.specs.Counts.{sent_count}
 use Rattle.tap_engine.specs.World.{whole_log}
 use Rattle.tap_lawful.specs.CarriedNext.{carried_next_group}
-use Rattle.tap_lawful.specs.Next.{next_group}
+use Rattle.tap_lawful.specs.Next.{uncarried_next_group}
 use Rattle.tap_lawful.specs.Lawful.{step_alone}
 use Rattle.tap_headline.specs.Printable.{CanBePrinted}
 use Rattle.tap_headline.proofs.Runs.{run_logs_are_printed}
@@ -18,7 +18,7 @@ use Rattle.tap_replay.proofs.ByCarrier.{player_log}
 use Rattle.tap_replay.specs.CarriedPlayer.{CarriedTurnsAs, StaysOrIsCut}
 use Rattle.tap_replay.specs.CarriedTurn.{carried_outcome_by, carried_turn_outcome, unless_carried_spent}
 use Rattle.tap_replay.specs.Player.{PlayerValue, TurnsAs}
-use Rattle.tap_replay.specs.Runs.{GoesOnBy, HasNoRootSets, HasPlayed, IsLeftBy, LeavesWorld, TakesTurn, TurnsBy}
+use Rattle.tap_replay.specs.Runs.{GoesOnBy, HasPlayed, IsLeftBy, LeavesWorld, TakesTurn, TurnsBy}
 use Rattle.tap_replay.specs.Turn.{outcome_by, turn_outcome, unless_finished, unless_spent}
 use Rattle.tap_replay.specs.declared.end.End.{End}
 use Rattle.tap_replay.specs.declared.end.End.TheVariants.{Done, Spent, NoMemory}
@@ -32,8 +32,8 @@ is_left s p end played over =
     subst (λ o. MatchOption o (GoesOnBy s.carrier s p.world) (λ e. IsLeftBy s.carrier s e p.world)) over played
 
 -- the log of a run so far can be printed
-pub player_prints : (s : ScenarioValue) (p : PlayerValue) → IsScript s → HasNoRootSets s → HasPlayed s p → CanBePrinted (whole_log p.world)
-player_prints s p valid plays played = run_logs_are_printed.printed s (whole_log p.world) valid (player_log s valid plays p played)
+pub player_prints : (s : ScenarioValue) (p : PlayerValue) → IsScript s → HasPlayed s p → CanBePrinted (whole_log p.world)
+player_prints s p valid played = run_logs_are_printed.printed s (whole_log p.world) valid (player_log s valid p played)
 
 -- ---- the log only grows
 
@@ -54,7 +54,7 @@ group_grows : (s : ScenarioValue) (log group : List Record) → Grows log (unles
 group_grows s log group =
     elim (cases_Bool (nat_le (sent_count (log ++ group)) s.frames)) [
       | inl within ↦
-          let longer = finished_grows s (log ++ group) (next_group s (log ++ group)) in
+          let longer = finished_grows s (log ++ group) (uncarried_next_group s (log ++ group)) in
           rw within (record { more = group ++ longer.more; is = longer.is ∙ append_assoc log group longer.more })
       | inr over ↦ rw over (record { more = step_alone group ++ SpentRecord s.frames ∷ []; is = refl })
     ]
@@ -65,7 +65,7 @@ outcome_grows s log None = finished_grows s log None
 
 module _ (s : ScenarioValue) (log after : List Record) where
   outcome_front : after ≡ (turn_outcome s log).log → take (length log) after ≡ log
-  outcome_front is = ap (take (length log)) is ∙ grows_front log (turn_outcome s log).log (outcome_grows s log (next_group s log))
+  outcome_front is = ap (take (length log)) is ∙ grows_front log (turn_outcome s log).log (outcome_grows s log (uncarried_next_group s log))
 
   turned_front : (given : Turned) → TurnsAs (turn_outcome s log) log given after → take (length log) after ≡ log
   turned_front More turns = outcome_front (turns.log (λ is. cc))

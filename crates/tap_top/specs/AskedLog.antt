@@ -2,7 +2,7 @@
 use Rattle.std.specs.Prelude.{◌≡◌, Bool, false, List, Option, Some}
 use Rattle.std.specs.Option.{option_map_or}
 use Rattle.tap_io.specs.Source.{SourceState}
-use Rattle.tap_scenario.specs.Scenario.{CanBePlayed, IsScript, ScenarioValue}
+use Rattle.tap_scenario.specs.Scenario.{IsScript, ScenarioValue}
 use Rattle.tap_log.specs.declared.record.Record.{Record}
 use Rattle.tap_log.specs.Log.{last_of}
 use Rattle.tap_history.specs.Groups.{is_spent}
@@ -16,13 +16,11 @@ use Rattle.tap_replay.specs.declared.end.End.TheVariants.{Done, Spent}
 use Rattle.tap_words.specs.declared.asked.Asked.{Asked}
 use Rattle.tap_top.specs.Wanted.{IsWanted}
 
--- The scenario that the words ask for was had, it can be played, and the log is that of its run, however far it has come and however
--- it has ended: it is lawful, it begins as the scenario does, its steps are the scenario's first ones, and it has the headline, at each of its
--- moments.
+-- The scenario that the words ask for was had, and the log is that of its run, however far it has come and however it has ended: it is lawful, it
+-- begins as the scenario does, its steps are the scenario's first ones, and it has the headline, at each of its moments.
 pub record IsLogAsked (asked : Asked) (old new : SourceState) (log : List Record) : Type 0 where
   pub script : ScenarioValue
   pub valid : IsScript script
-  pub plays : CanBePlayed script
   pub wanted : IsWanted asked old new script
   pub run : IsRunLog script log
   pub follows : FollowsScenario script log

@@ -3,7 +3,7 @@
 use Rattle.std.specs.Prelude.{◌≡◌, ◌⊎◌, ◌++◌, ℕ, IsSome, List, [], Option, None, Some}
 use Rattle.tap_io.specs.Sink.{SinkState}
 use Rattle.tap_io.specs.Source.{SourceState}
-use Rattle.tap_scenario.specs.Scenario.{CanBePlayed, IsScript, ScenarioValue}
+use Rattle.tap_scenario.specs.Scenario.{IsScript, ScenarioValue}
 use Rattle.tap_log.specs.declared.record.Record.{Record}
 use Rattle.tap_engine.specs.World.{WorldValue, whole_log}
 use Rattle.tap_replay.specs.Runs.{LeavesWorld as RunLeaves}
@@ -48,11 +48,10 @@ abbrev pub HasRunOf : ScenarioValue → Status → Option WorldValue → Type 0
 HasRunOf script status None = status ≡ NoMemory
 HasRunOf script status (Some world) = HasRunAs script status world
 
--- the scenario that the words ask for was had, it can be played, and its run has ended with this status and leaves this world
+-- the scenario that the words ask for was had, and its run has ended with this status and leaves this world
 pub record HasRun (asked : Asked) (old new : SourceState) (status : Status) (world : WorldValue) : Type 0 where
   pub script : ScenarioValue
   pub valid : IsScript script
-  pub plays : CanBePlayed script
   pub wanted : IsWanted asked old new script
   pub ended : HasRunAs script status world
 

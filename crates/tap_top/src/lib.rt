@@ -4,7 +4,7 @@
 //! written. The log is that of a run of the scenario. At each of its moments, however the run has ended, there is a core node, no core
 //! node's table has a hole that another core node could fill, each walk finds the one root, and at rest each node that is present is core,
 //! who departed is gone, each lookup is answered and pointers stand on their paths; a lookup made alone from a rest is exact, and what is said
-//! of other lookups, of casts, sessions, watch lists and the frames of joins holds.
+//! of other lookups, of root sets, casts, sessions, watch lists and the frames of joins holds.
 #![tactic(auto)]
 
 mod fault_line;

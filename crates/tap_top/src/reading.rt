@@ -1,5 +1,5 @@
 ghost use Rattle.std.specs.Prelude.{IfOk, IfErr};
-ghost use Rattle.tap_scenario.specs.Scenario.{CanBePlayed, IsScript};
+ghost use Rattle.tap_scenario.specs.Scenario.{IsScript};
 ghost use Rattle.tap_top.specs.Reading.{HasReadScript};
 ghost use Rattle.tap_top.specs.Wanted.{IsUnread};
 
@@ -17,7 +17,6 @@ pub const MOST_BYTES: usize = 1_048_576;
 pub(crate) fn read_scenario<S: Source>(alloc: Global, source: &mut S) -> Result<Scenario, Status>
     ensures script { IfOk result (HasReadScript (S.state source.old) (S.state source.new)) }
     ensures valid { IfOk result IsScript }
-    ensures played { IfOk result CanBePlayed }
     ensures unread { IfErr result (IsUnread (S.state source.old) (S.state source.new)) }
 {
     let bytes = match read_all(alloc, source, MOST_BYTES) {

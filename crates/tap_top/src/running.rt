@@ -7,7 +7,7 @@ ghost use Rattle.tap_replay.specs.Runs.{HasPlayed, LeavesWorld};
 ghost use Rattle.tap_report.specs.Reporter.{Reports, most_records, settings_after};
 ghost use Rattle.tap_report.specs.Text.{IsPrintableLog};
 ghost use Rattle.tap_report.specs.declared.mode.Mode.{Mode as ReportMode};
-ghost use Rattle.tap_scenario.specs.Scenario.{CanBePlayed, IsScript};
+ghost use Rattle.tap_scenario.specs.Scenario.{IsScript};
 
 use tap_io::Sink;
 use tap_log::Log;
@@ -39,7 +39,6 @@ pub(crate) fn play<K: Sink>(
     sink: &mut K,
 ) -> End
     requires valid { IsScript scenario.now }
-    requires plays { CanBePlayed scenario.now }
     requires played { HasPlayed scenario.now player.old }
     requires begun { player.old.over ≡ None }
     requires put { reporter.old.records ≡ length (whole_log player.old.world) }
@@ -64,7 +63,6 @@ fn turn_and_put<K: Sink>(
     sink: &mut K,
 ) -> Turned
     requires valid { IsScript scenario.now }
-    requires plays { CanBePlayed scenario.now }
     requires played { HasPlayed scenario.now player.old }
     requires begun { player.old.over ≡ None }
     requires put { reporter.old.records ≡ length (whole_log player.old.world) }

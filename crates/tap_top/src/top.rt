@@ -8,7 +8,7 @@ ghost use Rattle.tap_lawful.specs.Runs.{IsLawful};
 ghost use Rattle.tap_replay.specs.Runs.{HasPlayed};
 ghost use Rattle.tap_report.specs.Text.{IsPrintableLog};
 ghost use Rattle.tap_report.specs.declared.mode.Mode.{Mode as ReportMode};
-ghost use Rattle.tap_scenario.specs.Scenario.{CanBePlayed, IsScript};
+ghost use Rattle.tap_scenario.specs.Scenario.{IsScript};
 ghost use Rattle.tap_top.specs.Ending.{HasCause, HasCauseOf, HasRunAs, HasRunOf, HasWritten, LeavesWorld, log_of, mode_asked, text_of_run};
 ghost use Rattle.tap_top.specs.FaultLine.{fault_line};
 ghost use Rattle.tap_top.specs.AskedLog.{HasRunAll, HasRunShort, IsLogAsked, ends_spent};
@@ -62,7 +62,6 @@ fn print_run<K: Sink>(
     sink: &mut K,
 ) -> Printed
     requires valid { IsScript scenario.now }
-    requires plays { CanBePlayed scenario.now }
     requires played { HasPlayed scenario.now player.old }
     requires begun { player.old.over ≡ None }
     ensures run { HasRunAs scenario.now result.before player.new.world }
@@ -87,7 +86,6 @@ fn print_run<K: Sink>(
 // Runs a scenario, and writes what is printed of it.
 fn run_and_print<K: Sink>(alloc: Global, scenario: &Scenario, mode: Mode, sink: &mut K) -> Ended
     requires valid { IsScript scenario.now }
-    requires plays { CanBePlayed scenario.now }
     ensures run { HasRunOf scenario.now result.before result.world }
     ensures world { LeavesWorld result.before result.world }
     ensures written { HasWritten (K.state sink.old) (K.state sink.new)
@@ -211,7 +209,7 @@ pub fn run<S: Source, K: Sink>(
 
     // The headline: there is no log, or it is that of a run. At each of its moments, however the run has ended, there is a core node, no table
     // has a hole, each walk finds the one root, and at rest each node that is present is core, who departed is gone, each lookup is answered and
-    // pointers stand on their paths; a lookup made alone from a rest is exact, and what is said of other lookups, of casts, sessions, watch
+    // pointers stand on their paths; a lookup made alone from a rest is exact, and what is said of other lookups, of root sets, casts, sessions, watch
     // lists and the frames of joins holds.
     ensures headline { (log_of result.world ≡ []) ⊎ IfSome (asked_by (map string_bytes words.now.items))
         (λ asked. IsLogAsked asked (S.state source.old) (S.state source.new) (log_of result.world)) }

@@ -1,6 +1,6 @@
 ghost use Rattle.std.specs.Prelude.{◌≡◌, ◌≤◌, IfOk, IfErr};
 ghost use Rattle.tap_make.specs.Made.{made};
-ghost use Rattle.tap_scenario.specs.Scenario.{CanBePlayed, IsScript};
+ghost use Rattle.tap_scenario.specs.Scenario.{IsScript};
 ghost use Rattle.tap_top.specs.Wanted.{AsksWithin, IsNotHad, IsWanted, mode_of};
 
 use crate::reading::read_scenario;
@@ -32,7 +32,6 @@ pub(crate) fn wanted_scenario<S: Source>(
     requires joins { AsksWithin asked.now }
     ensures wanted { IfOk result (IsWanted asked.now (S.state source.old) (S.state source.new)) }
     ensures valid { IfOk result IsScript }
-    ensures played { IfOk result CanBePlayed }
     ensures cause { IfErr result (IsNotHad asked.now (S.state source.old) (S.state source.new)) }
 {
     match asked.make {
@@ -47,7 +46,6 @@ fn make_scenario(alloc: Global, joins: u32, seed: u64) -> Result<Scenario, Statu
     requires to { joins ≤ 100 }
     ensures made { IfOk result (λ script. script ≡ made joins seed) }
     ensures valid { IfOk result IsScript }
-    ensures played { IfOk result CanBePlayed }
     ensures cause { IfErr result (λ status. status ≡ Status.NoMemory) }
 {
     match make(alloc, joins, seed) {

@@ -7,18 +7,18 @@ use Rattle.tap_replay.proofs.ByCarrier.{may_turn}
 use Rattle.tap_top.proofs.Turning.{front_within, player_prints, turn_front}
 use Rattle.tap_top.proofs.running.turn_and_put.Goals as goal
 
-pub turn-turned-requires-clause-script : goal.turn-turned-requires-clause-script
-turn-turned-requires-clause-script g c =
-    may_turn c.args.scenario.now c.requires.valid c.requires.plays.steps c.args.player.now c.requires.played
+pub turn-turned-requires : goal.turn-turned-requires
+turn-turned-requires g c =
+    may_turn c.args.scenario.now c.requires.valid c.args.player.now c.requires.played
 
 pub put_from-requires-clause-printable : goal.put_from-requires-clause-printable
 put_from-requires-clause-printable g c =
-    let prints = player_prints c.args.scenario.now c.turn-turned.new.self c.requires.valid c.requires.plays.steps c.turn-turned.ensures.played in
+    let prints = player_prints c.args.scenario.now c.turn-turned.new.self c.requires.valid c.turn-turned.ensures.played in
     rw c.log-2.ensures prints.printable
 
 pub put_from-requires-clause-few : goal.put_from-requires-clause-few
 put_from-requires-clause-few g c =
-    let prints = player_prints c.args.scenario.now c.turn-turned.new.self c.requires.valid c.requires.plays.steps c.turn-turned.ensures.played in
+    let prints = player_prints c.args.scenario.now c.turn-turned.new.self c.requires.valid c.turn-turned.ensures.played in
     rw c.log-2.ensures prints.few
 
 pub put_from-requires-clause-from : goal.put_from-requires-clause-from

@@ -12,11 +12,11 @@ use Rattle.tap_top.proofs.top.print_run.Goals as goal
 
 pub put_from-requires-clause-printable : goal.put_from-requires-clause-printable
 put_from-requires-clause-printable g c =
-    rw c.log.ensures (player_prints c.args.scenario.now c.args.player.now c.requires.valid c.requires.plays.steps c.requires.played).printable
+    rw c.log.ensures (player_prints c.args.scenario.now c.args.player.now c.requires.valid c.requires.played).printable
 
 pub put_from-requires-clause-few : goal.put_from-requires-clause-few
 put_from-requires-clause-few g c =
-    rw c.log.ensures (player_prints c.args.scenario.now c.args.player.now c.requires.valid c.requires.plays.steps c.requires.played).few
+    rw c.log.ensures (player_prints c.args.scenario.now c.args.player.now c.requires.valid c.requires.played).few
 
 pub returns-clause-run : goal.returns-clause-run
 returns-clause-run g c =

@@ -5,7 +5,7 @@ use Rattle.tap_top.proofs.top.run_asked.Goals as goal
 pub returns-in-Ok-clause-cause : goal.returns-in-Ok-clause-cause
 returns-in-Ok-clause-cause g c =
     cause_of_run c.args.asked.now (g.S.Source.state c.args.source.now) (g.S.Source.state c.wanted_scenario.new.source) c.in-Ok.scenario
-    c.run_and_print.result.world c.run_and_print.result.before c.in-Ok.ensures.valid c.in-Ok.ensures.played c.in-Ok.ensures.wanted
+    c.run_and_print.result.world c.run_and_print.result.before c.in-Ok.ensures.valid c.in-Ok.ensures.wanted
     c.run_and_print.ensures.run
 
 pub returns-in-Err-clause-cause : goal.returns-in-Err-clause-cause
