@@ -1,11 +1,11 @@
 -- hexadecimal digits that are taken at once
-use Rattle.std.proofs.Common.{◌≡◌, ◌==◌, ◌&&◌, ℕ, zero, suc, ◌+◌, ◌*◌, ◌/◌, ◌%◌, ◌<◌, ◌≤◌, Bool, true, false, arith, List, [], ◌∷◌, ◌++◌, length, get_or, map, set, slice_index, take, All, Option, None, Some, refl, ap, sym, subst, ◌∙◌}
+use Rattle.std.proofs.Common.{◌≡◌, ◌&&◌, ℕ, zero, suc, ◌+◌, ◌*◌, ◌/◌, ◌%◌, ◌<◌, Bool, true, false, arith, List, [], ◌∷◌, ◌++◌, length, drop, get_or, map, replicate, set, slice_index, take, All, Option, None, Some, refl, ap, sym, subst, ◌∙◌}
 use Rattle.std.specs.List.{list_all}
 use Rattle.std.proofs.lemmas.Bool.{and_parts, eqb-true, false≢true}
 use Rattle.std.proofs.lemmas.Bool.Decides.{nat_tests}
 use Rattle.std.proofs.lemmas.List.{length-map, map-append, take_more, take_more_set}
 use Rattle.std.proofs.lemmas.List.Folds.{list_all-append}
-use Rattle.std.proofs.lemmas.List.Elements.{All-cons, All-head, All-nil, All-tail}
+use Rattle.std.proofs.lemmas.List.Elements.{All-append, All-cons, All-drop, All-head, All-nil, All-replicate, All-tail}
 use Rattle.hex.specs.Hex.{encode_lower, encode_with, lower_digits}
 use Rattle.tap_name.specs.Digits.{text_of_digit}
 use Rattle.tap_name.specs.Name.{text_of_name}
@@ -116,3 +116,26 @@ taken_more text values at inside room is =
     take_more_set values at (loose_value (get_or text at 0)) (omega (arith, room, inside))
     ∙ ap (λ (front : List ℕ). front ++ loose_value (get_or text at 0) ∷ []) is
     ∙ sym (ap (map loose_value) (take_more text at 0 inside) ∙ map-append loose_value (take at text) (get_or text at 0 ∷ []))
+
+-- ---- digits in the first of many places
+
+joined_front : (n : ℕ) (digits others : List ℕ) → length digits ≡ 2 * n → take n (joined (digits ++ others)) ≡ joined digits
+joined_front zero [] others len = refl
+joined_front zero (x ∷ digits) others len = absurd (omega (arith, len))
+joined_front (suc n) [] others len = absurd (omega (arith, len))
+joined_front (suc n) (x ∷ []) others len = absurd (omega (arith, len))
+joined_front (suc n) (x ∷ y ∷ digits) others len =
+    ap (λ (bytes : List ℕ). (x * 16 + y) ∷ bytes) (joined_front n digits others (omega (arith, len)))
+
+pub few_joined : (n : ℕ) (text front others : List ℕ) → length text ≡ 2 * n → front ≡ map loose_value text
+    → take n (joined (front ++ others)) ≡ joined (map loose_value text)
+few_joined n text front others len is =
+    ap (λ (digits : List ℕ). take n (joined (digits ++ others))) is
+    ∙ joined_front n (map loose_value text) others (length-map text loose_value ∙ len)
+
+pub few_digits : (text front : List ℕ) (skipped count : ℕ) → front ≡ map loose_value text
+    → All (λ digit. digit < 16) (front ++ drop skipped (replicate count 0))
+few_digits text front skipped count is =
+    All-append (λ digit. digit < 16) front (drop skipped (replicate count 0))
+    (subst (All (λ digit. digit < 16)) (sym is) (loose_digits text))
+    (All-drop (λ digit. digit < 16) skipped (replicate count 0) (All-replicate (λ digit. digit < 16) count 0 (omega arith)))

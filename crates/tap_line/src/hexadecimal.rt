@@ -78,7 +78,7 @@ fn spelled(
     Ok(Bytes::copy_of(alloc, places)?)
 }
 
-// The bytes that so few digits spell.
+// The bytes that so few digits spell. All places are put together at once, and the first of them taken.
 #[inline(never)]
 fn few_bytes(alloc: Global, text: &[u8], count: usize) -> Result<Bytes, LineFault>
     requires len { length text.now ≡ 2 * count }
@@ -87,8 +87,12 @@ fn few_bytes(alloc: Global, text: &[u8], count: usize) -> Result<Bytes, LineFaul
     ensures none { result ≡ Err NoLine → bytes_of_hex text.now ≡ None }
 {
     let mut values = [0; 2 * FEW_BYTES];
+    if !take_digits(text, &mut values[..text.len()]) {
+        return Err(LineFault::NoLine);
+    }
     let mut places = [0; FEW_BYTES];
-    spelled(alloc, text, &mut values[..text.len()], &mut places[..count])
+    put_joined(&values, &mut places);
+    Ok(Bytes::copy_of(alloc, &places[..count])?)
 }
 
 // The bytes that many digits spell.

@@ -1,5 +1,5 @@
 use Rattle.std.proofs.Common.{rules, arith, ◌≡◌, ◌+◌, ◌<◌, length, get_or, Some, refl, ap, sym, ◌∙◌}
-use Rattle.tap_line.proofs.Decimals.{empty_word, great_number, leading_zero, no_digits, plain_number}
+use Rattle.tap_line.proofs.Decimals.{empty_word, leading_zero, no_digits, plain_number}
 use Rattle.tap_line.proofs.numbers.few_digits.Goals.{else-word-gt1-via-then-word-gt1+else-word-eq48, else-word-gt1-via-else-word-gt1}
 use Rattle.tap_line.proofs.numbers.few_digits.Goals as goal
 
