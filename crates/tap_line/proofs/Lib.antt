@@ -16,7 +16,7 @@ mod Codes
 mod BackParts
 mod BackRest
 mod ToldParts
-mod Exact
+pub mod Exact
 mod Alike
 mod Gathered
 mod Sent
