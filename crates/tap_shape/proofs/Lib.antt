@@ -1,0 +1,13 @@
+mod Printing
+mod Feeds
+mod Texts
+mod Lines
+mod Order
+mod Distinct
+mod Valid
+mod Kept
+mod Completes
+mod Accepts
+mod Accepted
+mod Exact
+mod Unique

@@ -1,0 +1,4 @@
+pub mod Shape
+pub mod Text
+pub mod Reader
+pub mod Laws
