@@ -8,7 +8,7 @@ use tap_cast_runs::{run_casts_law, told_casts_law};
 ///
 /// It does nothing but call what is known of casts, which does nothing: its contract is the law.
 ///
-/// Rule: docs/FORMATS.md, "The printed text".
+/// Rule: docs/FORMATS.md, "Texts that are read back".
 pub fn shapes_law()
     ensures { LogsAreShapes }
 {

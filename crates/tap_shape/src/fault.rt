@@ -4,7 +4,7 @@ use tap_log::NoMemory;
 
 /// Why bytes aren't read as a log.
 ///
-/// Rule: docs/FORMATS.md, "The printed text".
+/// Rule: docs/FORMATS.md, "Texts that are read back".
 #[derive(Clone, Copy, Debug, PartialEq, Eq)]
 pub enum LogFault {
     /// They are no log's text. Lines are counted from 1, each with its line feed. The lines before this one begin a log's text, and with it they

@@ -4,7 +4,7 @@ ghost use Rattle.tap_shape.specs.Laws.{ShapesCanBePrinted, TextsAreExact};
 ///
 /// It does nothing: its contract is the law.
 ///
-/// Rule: docs/FORMATS.md, "The printed text".
+/// Rule: docs/FORMATS.md, "Texts that are read back".
 pub fn shape_law()
     ensures { ShapesCanBePrinted }
 {}
@@ -13,7 +13,7 @@ pub fn shape_law()
 ///
 /// It does nothing: its contract is the law.
 ///
-/// Rule: docs/FORMATS.md, "The printed text".
+/// Rule: docs/FORMATS.md, "Texts that are read back".
 pub fn text_law()
     ensures { TextsAreExact }
 {}

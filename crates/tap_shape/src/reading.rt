@@ -121,7 +121,7 @@ impl Reader {
 /// `LogFault::NotLog(k)`: the bytes are no log's text. The first k - 1 lines, each with its line feed, begin one, and the first k begin none; or
 /// all lines begin one, and k is one more than theirs.
 ///
-/// Rule: docs/FORMATS.md, "The printed text".
+/// Rule: docs/FORMATS.md, "Texts that are read back".
 pub fn read_log(alloc: Global, bytes: &[u8]) -> Result<Log, LogFault>
     requires few { length bytes.now < 2 ^ 32 - 1 }
     ensures log { IfOk result (λ log. IsTextOf bytes.now log.records) }
