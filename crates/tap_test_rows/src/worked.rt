@@ -12,8 +12,8 @@ pub(crate) struct Worked {
     pub(crate) printed: &'static str,
 }
 
-// Walks, roots and tables over fixed members.
-const WALKS: [Worked; 5] = [
+// Walks, roots, root sets, and objects that are published under their salts, over fixed members.
+const WALKS: [Worked; 7] = [
     Worked {
         shows: "the digit wraps at each level",
         words: &["--brief"],
@@ -82,6 +82,45 @@ steps = []
 ",
         printed: "begin base 4 digits 3 width 2 frames 200000
 done 0
+",
+    },
+    Worked {
+        shows: "a root set",
+        words: &["--brief"],
+        text: "base = 16
+digits = 40
+width = 2
+members = [\"@abc\"]
+steps = [\"rootset @abc from @abc\"]
+",
+        printed: "begin base 16 digits 40 width 2 frames 100000
+rootset a9993e364706816aba3e25717850c26c9cd0d89d from a9993e364706816aba3e25717850c26c9cd0d89d roots a9993e364706816aba3e25717850c26c9cd0d89d a9993e364706816aba3e25717850c26c9cd0d89d a9993e364706816aba3e25717850c26c9cd0d89d a9993e364706816aba3e25717850c26c9cd0d89d
+done 1
+",
+    },
+    Worked {
+        shows: "scatter and findall",
+        words: &["--brief"],
+        text: "base = 16
+digits = 40
+width = 2
+members = [\"@abc\"]
+steps = [\"scatter @abc at @abc\", \"settle\", \"findall @abc from @abc\"]
+",
+        printed: "begin base 16 digits 40 width 2 frames 100000
+published f5a863f954041ff3b43c40781e202cdd33f995a9 at a9993e364706816aba3e25717850c26c9cd0d89d
+published 4bcfc0e3bf6c3ffc4b83ed5d49427d9b61029a1b at a9993e364706816aba3e25717850c26c9cd0d89d
+published 508f37600564a7122a0ac9316846a36ce020dde4 at a9993e364706816aba3e25717850c26c9cd0d89d
+published 82ac79bd615e9eb2ea396699019fc380efeb799e at a9993e364706816aba3e25717850c26c9cd0d89d
+asked 1 f5a863f954041ff3b43c40781e202cdd33f995a9 from a9993e364706816aba3e25717850c26c9cd0d89d
+answered 1 server a9993e364706816aba3e25717850c26c9cd0d89d
+asked 2 4bcfc0e3bf6c3ffc4b83ed5d49427d9b61029a1b from a9993e364706816aba3e25717850c26c9cd0d89d
+answered 2 server a9993e364706816aba3e25717850c26c9cd0d89d
+asked 3 508f37600564a7122a0ac9316846a36ce020dde4 from a9993e364706816aba3e25717850c26c9cd0d89d
+answered 3 server a9993e364706816aba3e25717850c26c9cd0d89d
+asked 4 82ac79bd615e9eb2ea396699019fc380efeb799e from a9993e364706816aba3e25717850c26c9cd0d89d
+answered 4 server a9993e364706816aba3e25717850c26c9cd0d89d
+done 9
 ",
     },
 ];
