@@ -24,11 +24,12 @@ none_is (x ∷ xs) name none (suc k) d within =
     ]
 
 pub loop-text-preserved : goal.loop-text-preserved
-loop-text-preserved c =
+loop-text-preserved g c =
     let names = c.loop-text.names in
-    let name = c.in_ok-name.name in
-    let none : list_any (λ y. pointwise nat_eq y name) names ≡ false = rw c.as_slice.ensures at (sym c.if-contains.ensures.value) in
-    rw c.in_ok-push.ensures.ok (record {
-      names = All-push (IsName c.args.settings.now) names name c.loop-text.invariant.names c.in_ok-name.ensures;
+    let name = c.name_of-name.result in
+    let new : c.contains.result ≡ false = search in
+    let none : list_any (λ y. pointwise nat_eq y name) names ≡ false = rw c.as_slice.ensures at (sym c.contains.ensures.value ∙ new) in
+    rw c.push.ensures (record {
+      names = All-push (IsName c.args.settings.now) names name c.loop-text.invariant.names c.name_of-name.ensures;
       distinct = all_pairs_push (λ x y. x ≢ y) names name c.loop-text.invariant.distinct (none_is names name none);
     })

@@ -4,4 +4,4 @@ use Rattle.tap_name.specs.Distinct.{AreDistinct}
 use Rattle.tap_surrogate.proofs.tests.names_of.Given as goal
 
 abbrev pub invariant-loop-text : goal.invariant-loop-text
-invariant-loop-text l = record { names : All (IsName l.settings) l.names; distinct : AreDistinct l.names }
+invariant-loop-text g l = record { names : All (IsName l.settings) l.names; distinct : AreDistinct l.names }

@@ -2,7 +2,7 @@ use Rattle.std.proofs.Common.{find, nat_eq}
 use Rattle.std.specs.Option.{is_some, option_copied}
 use Rattle.std.specs.Cmp.Lexicographic.{pointwise}
 use Rattle.tap_surrogate.specs.Standing.{IsStanding}
-use Rattle.tap_surrogate.proofs.tests.check_walk.Given as goal
+use Rattle.tap_surrogate.proofs.tests.check_steps.Given as goal
 
 abbrev pub invariant-loop-place : goal.invariant-loop-place
 invariant-loop-place g l =
