@@ -1,11 +1,12 @@
 ghost use Rattle.std.specs.Prelude.{◌≡◌, All, true};
+ghost use Rattle.tap_name.specs.Name.{IsName};
 ghost use Rattle.tap_multicast.specs.Covers.{MayCover, MayWatch};
 
-use crate::{Covered, Covers};
+use crate::{Covered, Covers, Target};
 use std::alloc::Global;
-use std::test::Fail;
+use std::process::Abort;
 use tap_link::Kind;
-use tap_name::{Name, Settings, Slot, read_name, text_of_digit};
+use tap_name::{List, Name, Offered, Settings, Slot, read_name, text_of_digit};
 use tap_table::Table;
 use tap_watch::Watch;
 
@@ -224,134 +225,63 @@ const FURTHER: [Further; 2] = [
     },
 ];
 
-#[test]
-fn a_first_cover_introduces_and_offers(rt: HostRuntime) -> Result<(), Fail> {
-    let settings = Settings::new(4, 3, 2).ok_or("settings")?;
-    for case in CASES.iter() {
-        let joiner = read_name(&settings, case.joiner.as_bytes())?;
-        let mut table = table_of(rt.alloc(), &settings, case.owner, case.settled)?;
-        link(&mut table, case.pins, true)?;
-        link(&mut table, case.joiner, true)?;
-        let mut watch = watch_of(rt.alloc(), &settings, case.joiner, case.prefix)?;
-        strike(&mut watch, case.struck);
-        let mut covers = Covers::new(rt.alloc());
-        let text = given(
-            rt.alloc(),
-            &mut covers,
-            &table,
-            &Word {
-                joiner,
-                prefix: case.prefix,
-                level: case.level,
-            },
-            &watch,
-        )?;
-        assert_eq!(rt; text.as_slice(), case.given.as_bytes(), "{}", case.given);
-        assert_eq!(rt; covers.level_of(joiner), Some(case.level));
-    }
-    Ok(())
+// The settings of names with three digits in base 4.
+fn settings_of(rt: &impl Abort) -> Settings {
+    Settings::new(4, 3, 2).expect(rt, "settings")
 }
 
-// A word at a lesser level goes over the levels between, and leaves the watch; one that isn't lesser does nothing.
-#[test]
-fn a_later_cover_tells_of_new_levels_alone(rt: HostRuntime) -> Result<(), Fail> {
-    let settings = Settings::new(4, 3, 2).ok_or("settings")?;
-    for case in FURTHER.iter() {
-        let joiner = read_name(&settings, case.joiner.as_bytes())?;
-        let mut table = table_of(rt.alloc(), &settings, case.owner, case.settled)?;
-        link(&mut table, case.pins, true)?;
-        link(&mut table, case.joiner, true)?;
-        let watch = watch_of(rt.alloc(), &settings, case.joiner, case.prefix)?;
-        let mut covers = Covers::new(rt.alloc());
-        for (level, text) in case.words {
-            let word = Word {
-                joiner,
-                prefix: case.prefix,
-                level,
-            };
-            let given = given(rt.alloc(), &mut covers, &table, &word, &watch)?;
-            assert_eq!(rt; given.as_slice(), text.as_bytes(), "{text}");
-        }
-        assert_eq!(rt; covers.level_of(joiner), Some(case.prefix));
-    }
-    Ok(())
+// The name of a text.
+fn name_of(rt: &impl Abort, settings: &Settings, text: &str) -> Name
+    ensures { IsName settings.now result }
+{
+    read_name(settings, text.as_bytes()).expect(rt, "a name")
 }
 
-const MANY: &str = "100 110 120 130 200 300";
-
-// Six joiners are covered one after the other, and each of them is covered already then.
-#[test]
-fn covers_of_many_joiners_are_kept(rt: HostRuntime) -> Result<(), Fail> {
-    let settings = Settings::new(4, 3, 2).ok_or("settings")?;
-    let mut table = table_of(rt.alloc(), &settings, "000", "")?;
-    link(&mut table, MANY, true)?;
-    let mut covers = Covers::new(rt.alloc());
-    for name in MANY.split(' ') {
-        let joiner = read_name(&settings, name.as_bytes())?;
-        assert_eq!(rt; covers.level_of(joiner), None, "{name}");
-        given_at_prefix_0(rt.alloc(), &settings, &mut covers, &table, name)?;
-        assert_eq!(rt; covers.level_of(joiner), Some(0), "{name}");
-    }
-    for name in MANY.split(' ') {
-        let text = given_at_prefix_0(rt.alloc(), &settings, &mut covers, &table, name)?;
-        assert_eq!(rt; text.as_slice(), b"already".as_slice(), "{name}");
-    }
-    Ok(())
+// The table of a node without links.
+fn table_of(rt: &impl Abort, alloc: Global, owner: &str) -> Table {
+    let settings = settings_of(rt);
+    let owner = name_of(rt, &settings, owner);
+    Table::new(alloc, owner, &settings).expect(rt, "memory")
 }
 
-// What the first word of a joiner makes a node do that shares no digit with it.
-fn given_at_prefix_0(
-    alloc: Global,
-    settings: &Settings,
-    covers: &mut Covers,
-    table: &Table,
-    name: &str,
-) -> Result<Vec<u8>, Fail> {
-    let joiner = read_name(settings, name.as_bytes())?;
-    let watch = watch_of(alloc, settings, name, 0)?;
-    let word = Word {
-        joiner,
-        prefix: 0,
-        level: 0,
-    };
-    given(alloc, covers, table, &word, &watch)
+// Pins the node of a text.
+fn pin(rt: &impl Abort, table: &mut Table, text: &str) {
+    let name = name_of(rt, &table.settings(), text);
+    assert!(rt; name != table.owner());
+    let _ = table.pin(name).expect(rt, "memory");
 }
 
-// The table of a node with settled links.
-fn table_of(alloc: Global, settings: &Settings, owner: &str, settled: &str) -> Result<Table, Fail> {
-    let owner = read_name(settings, owner.as_bytes())?;
-    let mut table = Table::new(alloc, owner, settings)?;
-    link(&mut table, settled, false)?;
-    Ok(table)
+// Adds a settled link to the node of a text.
+fn settle(rt: &impl Abort, table: &mut Table, text: &str) {
+    let name = name_of(rt, &table.settings(), text);
+    assert!(rt; name != table.owner());
+    let _ = table.offer(name).expect(rt, "memory");
 }
 
-// Adds links to the nodes of a text: pins, or settled links.
-fn link(table: &mut Table, names: &str, pins: bool) -> Result<(), Fail> {
-    if names.is_empty() {
-        return Ok(());
-    }
+// Pins the nodes of a text, which are parted by blanks.
+fn pin_all(rt: &impl Abort, table: &mut Table, names: &str) {
     for text in names.split(' ') {
-        let settings = table.settings();
-        let name = read_name(&settings, text.as_bytes())?;
-        if name == table.owner() {
-            return Err("the owner")?;
-        }
-        if pins {
-            table.pin(name)?;
-        } else {
-            table.offer(name)?;
+        if !text.is_empty() {
+            pin(rt, table, text);
         }
     }
-    Ok(())
+}
+
+// Adds settled links to the nodes of a text, which are parted by blanks.
+fn settle_all(rt: &impl Abort, table: &mut Table, names: &str) {
+    for text in names.split(' ') {
+        if !text.is_empty() {
+            settle(rt, table, text);
+        }
+    }
 }
 
 // The full watch of a joiner with this prefix.
-fn watch_of(alloc: Global, settings: &Settings, joiner: &str, prefix: u8) -> Result<Watch, Fail> {
-    let joiner = read_name(settings, joiner.as_bytes())?;
-    if settings.digits() <= prefix {
-        return Err("a prefix of all digits")?;
-    }
-    Ok(Watch::full(alloc, &joiner, settings, prefix as usize)?)
+fn watch_of(rt: &impl Abort, alloc: Global, joiner: &str, prefix: u8) -> Watch {
+    let settings = settings_of(rt);
+    let joiner = name_of(rt, &settings, joiner);
+    assert!(rt; prefix < settings.digits());
+    Watch::full(alloc, &joiner, &settings, prefix as usize).expect(rt, "memory")
 }
 
 // Strikes the slots of a text, each a level and a digit.
@@ -389,6 +319,15 @@ struct Word {
     level: u8,
 }
 
+// A word of the joiner of a text.
+fn word_of(rt: &impl Abort, joiner: &str, prefix: u8, level: u8) -> Word {
+    Word {
+        joiner: name_of(rt, &settings_of(rt), joiner),
+        prefix,
+        level,
+    }
+}
+
 // Whether a node with this table may take a word and a watch.
 fn may_take(table: &Table, word: &Word, watch: &Watch) -> bool
     ensures { result ≡ true → MayCover table.now watch.now word.now.joiner word.now.prefix word.now.level }
@@ -410,73 +349,188 @@ fn may_take(table: &Table, word: &Word, watch: &Watch) -> bool
     may_watch(watch, settings.base(), word.prefix)
 }
 
-// What a word makes a node do, as a text.
-fn given(
+// What a word makes a node do.
+fn covered_by(
+    rt: &impl Abort,
+    covers: &mut Covers,
+    table: &Table,
+    word: &Word,
+    watch: &Watch,
+) -> Covered {
+    assert!(rt; may_take(table, word, watch));
+    covers
+        .cover(word.joiner, word.prefix, word.level, watch, table)
+        .expect(rt, "memory")
+}
+
+// Compares what a word makes a node do with a text.
+fn check_given(
+    rt: &impl Abort,
     alloc: Global,
     covers: &mut Covers,
     table: &Table,
     word: &Word,
     watch: &Watch,
-) -> Result<Vec<u8>, Fail> {
-    if !may_take(table, word, watch) {
-        return Err("a word that may not come")?;
-    }
-    words_of(
-        alloc,
-        covers.cover(word.joiner, word.prefix, word.level, watch, table)?,
-    )
+    wanted: &str,
+) {
+    let covered = covered_by(rt, covers, table, word, watch);
+    let text = words_of(rt, alloc, covered);
+    assert!(rt; text.as_slice() == wanted.as_bytes(), "{wanted}");
 }
 
-fn words_of(alloc: Global, covered: Covered) -> Result<Vec<u8>, Fail> {
+// What a word makes a node do, as a text.
+fn words_of(rt: &impl Abort, alloc: Global, covered: Covered) -> Vec<u8> {
     let mut text = Vec::new(alloc);
     match covered {
-        Covered::Already => text.extend_from_slice(b"already")?,
+        Covered::Already => put(rt, &mut text, b"already"),
         Covered::Now {
             first,
             offer,
             targets,
             left,
         } => {
-            text.extend_from_slice(if first {
-                b"first: offer"
-            } else {
-                b"again: offer"
-            })?;
-            for link in offer.as_slice() {
-                put_name(&mut text, &link.name)?;
-                if link.settled {
-                    text.push(b'+')?;
-                }
-            }
-            text.extend_from_slice(b", tell")?;
-            for target in targets.as_slice() {
-                put_name(&mut text, &target.to)?;
-                text.push(b'@')?;
-                put_digit(&mut text, target.level)?;
-            }
-            text.extend_from_slice(b", left")?;
-            for slot in left.as_slice() {
-                text.push(b' ')?;
-                put_digit(&mut text, slot.level)?;
-                put_digit(&mut text, slot.digit)?;
-            }
+            put_start(rt, &mut text, first);
+            put_offer(rt, &mut text, &offer);
+            put_targets(rt, &mut text, &targets);
+            put_left(rt, &mut text, &left);
         }
     }
-    Ok(text)
+    text
 }
 
-fn put_name(text: &mut Vec<u8>, name: &Name) -> Result<(), Fail> {
-    text.push(b' ')?;
+// Whether it is the first word of its joiner.
+fn put_start(rt: &impl Abort, text: &mut Vec<u8>, first: bool) {
+    if first {
+        put(rt, text, b"first: ");
+    } else {
+        put(rt, text, b"again: ");
+    }
+}
+
+// The links that are offered; a settled one has a mark.
+fn put_offer(rt: &impl Abort, text: &mut Vec<u8>, offer: &List<Offered>) {
+    put(rt, text, b"offer");
+    for link in offer.as_slice() {
+        put_name(rt, text, &link.name);
+        if link.settled {
+            put(rt, text, b"+");
+        }
+    }
+}
+
+// The nodes that are told, each with a level.
+fn put_targets(rt: &impl Abort, text: &mut Vec<u8>, targets: &List<Target>) {
+    put(rt, text, b", tell");
+    for target in targets.as_slice() {
+        put_name(rt, text, &target.to);
+        put(rt, text, b"@");
+        put_digit(rt, text, target.level);
+    }
+}
+
+// The slots that are left, each a level and a digit.
+fn put_left(rt: &impl Abort, text: &mut Vec<u8>, left: &Watch) {
+    put(rt, text, b", left");
+    for slot in left.as_slice() {
+        put(rt, text, b" ");
+        put_digit(rt, text, slot.level);
+        put_digit(rt, text, slot.digit);
+    }
+}
+
+// A name after a blank.
+fn put_name(rt: &impl Abort, text: &mut Vec<u8>, name: &Name) {
+    put(rt, text, b" ");
     for at in 0..name.len() {
-        put_digit(text, name.digit(at))?;
+        put_digit(rt, text, name.digit(at));
     }
-    Ok(())
 }
 
-fn put_digit(text: &mut Vec<u8>, digit: u8) -> Result<(), Fail> {
-    if 16 <= digit {
-        return Err("a digit")?;
+// A digit below 16.
+fn put_digit(rt: &impl Abort, text: &mut Vec<u8>, digit: u8) {
+    assert!(rt; digit < 16);
+    text.push(text_of_digit(digit)).expect(rt, "memory");
+}
+
+// Bytes as they are.
+fn put(rt: &impl Abort, text: &mut Vec<u8>, bytes: &[u8]) {
+    text.extend_from_slice(bytes).expect(rt, "memory");
+}
+
+// A node with some links, which has pinned the joiner too, takes the first word of it.
+fn check_case(rt: &impl Abort, alloc: Global, case: &Case) {
+    let mut table = table_of(rt, alloc, case.owner);
+    settle_all(rt, &mut table, case.settled);
+    pin_all(rt, &mut table, case.pins);
+    pin(rt, &mut table, case.joiner);
+    let mut watch = watch_of(rt, alloc, case.joiner, case.prefix);
+    strike(&mut watch, case.struck);
+    let mut covers = Covers::new(alloc);
+    let word = word_of(rt, case.joiner, case.prefix, case.level);
+    check_given(rt, alloc, &mut covers, &table, &word, &watch, case.given);
+    assert!(rt; covers.level_of(word.joiner) == Some(case.level));
+}
+
+#[test]
+fn a_first_cover_introduces_and_offers(rt: HostRuntime) {
+    for case in CASES.iter() {
+        check_case(&rt, rt.alloc(), case);
     }
-    text.push(text_of_digit(digit))?;
-    Ok(())
+}
+
+// A node with some links, which has pinned the joiner too, takes further words of it.
+fn check_further(rt: &impl Abort, alloc: Global, case: &Further) {
+    let mut table = table_of(rt, alloc, case.owner);
+    settle_all(rt, &mut table, case.settled);
+    pin_all(rt, &mut table, case.pins);
+    pin(rt, &mut table, case.joiner);
+    let watch = watch_of(rt, alloc, case.joiner, case.prefix);
+    let mut covers = Covers::new(alloc);
+    for (level, wanted) in &case.words {
+        let word = word_of(rt, case.joiner, case.prefix, *level);
+        check_given(rt, alloc, &mut covers, &table, &word, &watch, wanted);
+    }
+    let joiner = name_of(rt, &settings_of(rt), case.joiner);
+    assert!(rt; covers.level_of(joiner) == Some(case.prefix));
+}
+
+// A word at a lesser level goes over the levels between, and leaves the watch; one that isn't lesser does nothing.
+#[test]
+fn a_later_cover_tells_of_new_levels_alone(rt: HostRuntime) {
+    for case in FURTHER.iter() {
+        check_further(&rt, rt.alloc(), case);
+    }
+}
+
+const MANY: &str = "100 110 120 130 200 300";
+
+// The first word of a joiner comes, which shares no digit with the node.
+fn check_first(rt: &impl Abort, alloc: Global, covers: &mut Covers, table: &Table, joiner: &str) {
+    let watch = watch_of(rt, alloc, joiner, 0);
+    let word = word_of(rt, joiner, 0, 0);
+    assert!(rt; covers.level_of(word.joiner) == None, "{joiner}");
+    let covered = covered_by(rt, covers, table, &word, &watch);
+    let _ = words_of(rt, alloc, covered);
+    assert!(rt; covers.level_of(word.joiner) == Some(0), "{joiner}");
+}
+
+// The word comes again.
+fn check_again(rt: &impl Abort, alloc: Global, covers: &mut Covers, table: &Table, joiner: &str) {
+    let watch = watch_of(rt, alloc, joiner, 0);
+    let word = word_of(rt, joiner, 0, 0);
+    check_given(rt, alloc, covers, table, &word, &watch, "already");
+}
+
+// Six joiners are covered one after the other, and each of them is covered already then.
+#[test]
+fn covers_of_many_joiners_are_kept(rt: HostRuntime) {
+    let mut table = table_of(&rt, rt.alloc(), "000");
+    pin_all(&rt, &mut table, MANY);
+    let mut covers = Covers::new(rt.alloc());
+    for joiner in MANY.split(' ') {
+        check_first(&rt, rt.alloc(), &mut covers, &table, joiner);
+    }
+    for joiner in MANY.split(' ') {
+        check_again(&rt, rt.alloc(), &mut covers, &table, joiner);
+    }
 }
