@@ -1,0 +1,6 @@
+mod Sizes
+mod Scripts
+mod Leaving
+mod Verdicts
+mod Players
+mod Causes

@@ -1,0 +1,11 @@
+use Rattle.std.proofs.Common.{rules, tests}
+use Rattle.std.proofs.lemmas.Iterator.{YieldsList-from_slice, items_from_collect}
+use Rattle.std.proofs.lemmas.Iterator.Consumers.{YieldsList-from_filter_map}
+use Rattle.tap_log.specs.Kinds.{step_of}
+use Rattle.tap_judge.proofs.own_run.begun_steps.Goals as goal
+
+pub returns : goal.returns
+returns c =
+    items_from_collect _ c.collect.ensures.ran
+    (YieldsList-from_filter_map _ step_of (YieldsList-from_slice c.args.items.now (cc)) c.filter_map.ensures.closure
+    (λ x r q k. search (rules, tests)))

@@ -1,0 +1,5 @@
+pub mod Limits
+pub mod Status
+pub mod Verdict
+pub mod Comparing
+pub mod Ending

@@ -1,0 +1,25 @@
+//! The judge of printed logs: whether a log is lawful, be it printed by this program or written by another one.
+//!
+//! [`judge`] decides it of a log that was read: it runs the log's own scenario, and compares the records of the run with the log's.
+//! [`judge_run`] is all that a program needs: it reads a source to its end, judges the log of which the bytes are the text, and writes one
+//! line to a sink. A log that is lawful has the headline: what is promised of each log of a run holds of it.
+#![tactic(auto)]
+
+mod comparing;
+mod judging;
+mod law;
+mod line;
+mod own_run;
+mod reading;
+mod status;
+#[cfg(test)]
+mod tests;
+mod top;
+mod verdict;
+
+pub use judging::judge;
+pub use law::judged_law;
+pub use reading::MOST_BYTES;
+pub use status::{JudgeStatus, Judged};
+pub use top::judge_run;
+pub use verdict::Verdict;

@@ -1,0 +1,88 @@
+ghost use Rattle.std.specs.Prelude.{◌≡◌, ◌≢◌, ◌↔◌, ℕ, List, [], Some};
+ghost use Rattle.tap_io.specs.AllBytes.{HasReadAtMost, HasReadTooMany, HasReadUntilFault, HasReadWithoutFault};
+ghost use Rattle.tap_io.specs.Faults.{HasRisen};
+ghost use Rattle.tap_judge.specs.Ending.{HasCause, HasReadLawful, HasReadSuch, HasWritten, IsCauseOf, IsSaidOf, SpeaksOfBytes};
+ghost use Rattle.tap_judge.specs.Limits.{most_bytes};
+ghost use Rattle.tap_judge.specs.Status.{line_of_status};
+
+use crate::judging::judge;
+use crate::line::write_line;
+use crate::reading::source_log;
+use crate::status::{JudgeStatus, Judged};
+use crate::verdict::Verdict;
+use std::alloc::Global;
+use tap_io::{Sink, Source};
+
+/// Reads the long text of a log from a source to its end, decides whether the log is lawful, and writes one line that says it to a sink.
+///
+/// A word is refused, and then nothing is read. At most 33,554,432 bytes are read and one more, and the first read that fails ends the
+/// reading. `Lawful`, `Unlawful` and `NotLog` are exact: each comes exactly if it is true of the bytes, be they read to their end and is
+/// memory enough. The first write that fails ends the writing, and `before` doesn't depend on the sink.
+///
+/// Rule: docs/FORMATS.md, "The judge".
+pub fn judge_run<S: Source, K: Sink>(
+    alloc: Global,
+    words: &Vec<String>,
+    source: &mut S,
+    sink: &mut K,
+) -> Judged
+    // Why it ends so, and the line that is written, or some first bytes of it.
+    ensures cause { HasCause words.now.items (S.state source.old) (S.state source.new) result.before }
+    ensures written { HasWritten (K.state sink.old) (K.state sink.new) (line_of_status result.before) result.before result.status }
+
+    // The same, status by status. A lawful log has the headline at each of its moments.
+    ensures lawful { (records : ℕ) → result.before ≡ JudgeStatus.Lawful records
+        → HasReadLawful (S.state source.old) (S.state source.new) records }
+    ensures unlawful { (k : ℕ) → result.before ≡ JudgeStatus.Unlawful k
+        → HasReadSuch (S.state source.old) (S.state source.new) result.before }
+    ensures not_log { (line : ℕ) → result.before ≡ JudgeStatus.NotLog line
+        → HasReadSuch (S.state source.old) (S.state source.new) result.before }
+    ensures too_long { result.before ≡ JudgeStatus.TooLong → HasReadTooMany most_bytes (S.state source.old) (S.state source.new) }
+    ensures usage { (result.before ≡ JudgeStatus.Usage) ↔ (words.now.items ≢ []) }
+    ensures read_fault { result.before ≡ JudgeStatus.ReadFault → HasReadUntilFault most_bytes (S.state source.old) (S.state source.new) }
+    ensures no_memory { result.before ≡ JudgeStatus.NoMemory → HasReadWithoutFault most_bytes (S.state source.old) (S.state source.new) }
+    ensures write_fault { result.status ≡ JudgeStatus.WriteFault → HasRisen (K.state sink.old).faults (K.state sink.new).faults }
+    ensures before { result.before ≢ JudgeStatus.WriteFault }
+
+    // If the source tells its bytes, these three come exactly if they are true of them.
+    ensures exact { (bytes : List ℕ) (status : JudgeStatus) → (S.state source.old).left ≡ Some bytes → SpeaksOfBytes result.before
+        → IsSaidOf bytes status → result.before ≡ status }
+
+    // No more than so many bytes are read unless the text is too long, and no read fails unless the status says so. A word leaves the source as it
+    // was.
+    ensures read { result.before ≢ JudgeStatus.TooLong → HasReadAtMost most_bytes (S.state source.old) (S.state source.new) }
+    ensures unfailed { result.before ≢ JudgeStatus.ReadFault → (S.state source.new).faults ≡ (S.state source.old).faults }
+    ensures source { result.before ≡ JudgeStatus.Usage → S.state source.new ≡ S.state source.old }
+{
+    let before = judge_unless_words(alloc, words, source);
+    let written = write_line(sink, before);
+    Judged {
+        status: before.with_writing(written),
+        before,
+    }
+}
+
+// Judges the log of a source, if there is no word.
+fn judge_unless_words<S: Source>(alloc: Global, words: &Vec<String>, source: &mut S) -> JudgeStatus
+    ensures { HasCause words.now.items (S.state source.old) (S.state source.new) result }
+{
+    if words.is_empty() {
+        return judge_source(alloc, source);
+    }
+    JudgeStatus::Usage
+}
+
+// Judges the log of which all bytes of a source are the text.
+fn judge_source<S: Source>(alloc: Global, source: &mut S) -> JudgeStatus
+    ensures { IsCauseOf (S.state source.old) (S.state source.new) result }
+{
+    let log = match source_log(alloc, source) {
+        Ok(log) => log,
+        Err(status) => return status,
+    };
+    match judge(alloc, &log) {
+        Verdict::Lawful => JudgeStatus::Lawful(log.len() as u32),
+        Verdict::Unlawful(record) => JudgeStatus::Unlawful(record),
+        Verdict::NoMemory => JudgeStatus::NoMemory,
+    }
+}
