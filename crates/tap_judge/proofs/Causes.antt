@@ -1,5 +1,5 @@
 -- Why the judge's call ends as it does, and that what it says of bytes is exact.
-use Rattle.std.proofs.Common.{◌≡◌, ◌≢◌, inl, inr, ℕ, ◌-◌, ◌^◌, ◌<◌, ◌≤◌, List, [], ◌∷◌, ◌++◌, length, Option, None, Some, refl, ap, sym, subst, ◌∙◌, arith, append-nil}
+use Rattle.std.proofs.Common.{◌≡◌, ◌≢◌, inl, inr, ℕ, ◌-◌, ◌^◌, ◌<◌, List, [], ◌∷◌, ◌++◌, length, Option, None, Some, refl, ap, sym, subst, ◌∙◌, arith, append-nil}
 use Rattle.std.specs.Prelude.{◌↔◌}
 use Rattle.std.specs.Io.KnownBytes.{Consumes, IsAtEnd}
 use Rattle.std.proofs.KnownBytes.{Consumes-nil}
@@ -15,10 +15,10 @@ use Rattle.tap_own_scripts.proofs.Judging.{judges_hold}
 use Rattle.tap_report.specs.Written.{WritesText}
 use Rattle.tap_report.specs.declared.written.Written.{Written}
 use Rattle.tap_report.specs.declared.written.Written.TheVariants.{All, Failed}
-use Rattle.tap_shape.specs.Text.{IsNotLog, IsTextOf}
+use Rattle.tap_shape.specs.Text.{IsNotLog}
 use Rattle.tap_shape.proofs.Exact.{one_log}
 use Rattle.tap_shape.proofs.Unique.{one_refused}
-use Rattle.tap_judge.specs.Ending.{HasCause, HasReadLawful, HasReadLog, HasReadSuch, HasWritten, IsCauseOf, IsNotRead, IsLawfulText, IsSaidOf, IsUnlawfulText, OneIsSaid, SpeaksOfBytes}
+use Rattle.tap_judge.specs.Ending.{HasCause, HasReadLawful, HasReadLog, HasReadSuch, HasWritten, IsCauseOf, IsLawfulText, IsSaidOf, IsUnlawfulText, OneIsSaid, SpeaksOfBytes}
 use Rattle.tap_judge.specs.Limits.{most_bytes}
 use Rattle.tap_judge.specs.Status.{with_writing}
 use Rattle.tap_judge.proofs.Sizes.{records_within}
@@ -87,27 +87,11 @@ module _ (old new : SourceState) where
       let such = such_of words before cause speaks in
       one_is_said told before status (subst (λ bytes. IsSaidOf bytes before) (bytes_told such.bytes told such.read is) such.said) said
 
-  -- a log that was read, with its verdict
-  pub read_such : (log : List Record) (status : JudgeStatus) → HasReadLog old new log → ((bytes : List ℕ) → IsTextOf bytes log → IsSaidOf bytes status)
-      → HasReadSuch old new status
-  read_such log status read said = record { bytes = read.bytes; read = read.read; said = said read.bytes read.text }
-
   pub read_well : (bytes : List ℕ) → HasReadAll most_bytes old new bytes → HasReadWithoutFault most_bytes old new
   read_well bytes all = record {
     read = record { bytes = bytes; within = all.within; consumes = all.consumes };
     faults = all.faults;
   }
-
-  pub lawful_cause : (log : List Record) (count : ℕ) → HasReadLog old new log → IsLawful log → count ≡ length log
-      → HasReadSuch old new (Lawful count)
-  lawful_cause log count read lawful is =
-      read_such log (Lawful count) read (λ bytes text. record { log = log; text = text; lawful = lawful; count = sym is })
-
-  pub unlawful_cause : (log : List Record) (k : ℕ) → HasReadLog old new log → IsUnlawful log k → HasReadSuch old new (Unlawful k)
-  unlawful_cause log k read unlawful = read_such log (Unlawful k) read (λ bytes text. record { log = log; text = text; unlawful = unlawful })
-
-  pub memory_cause : (log : List Record) → HasReadLog old new log → HasReadWithoutFault most_bytes old new
-  memory_cause log read = read_well read.bytes read.read
 
   pub few_records : (log : List Record) → HasReadLog old new log → length log < 2 ^ 32 - 1
   few_records log read =
@@ -115,13 +99,6 @@ module _ (old new : SourceState) where
       let whole = read.read in
       let within = whole.within in
       omega (arith, size, within)
-
-  pub unread_cause : (status : JudgeStatus) → IsNotRead old new status → IsCauseOf old new status
-  unread_cause (NotLog line) cause = cause
-  unread_cause TooLong cause = cause
-  unread_cause ReadFault cause = cause
-  unread_cause NoMemory cause = cause
-  unread_cause other cause = absurd cause
 
   -- the headline comes with it
   pub with_headline : (records : ℕ) → HasReadSuch old new (Lawful records) → HasReadLawful old new records

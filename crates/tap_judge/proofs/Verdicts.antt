@@ -1,15 +1,14 @@
 -- That the verdict after a turn is right.
-use Rattle.std.proofs.Common.{◌≡◌, ◌≢◌, ◌⊎◌, inl, inr, ℕ, ◌+◌, ◌<◌, ◌≤◌, Bool, true, false, List, [], ◌∷◌, ◌++◌, length, take, Option, None, Some, refl, ap, sym, subst, ◌∙◌, arith, length-append}
-use Rattle.std.specs.Prelude.{◌==◌, ◌&&◌, ◌||◌, not}
-use Rattle.std.proofs.Math.Seq.{take-append_seam}
+use Rattle.std.proofs.Common.{◌≡◌, ◌≢◌, inl, inr, ℕ, ◌+◌, ◌<◌, ◌≤◌, Bool, true, false, List, [], ◌∷◌, ◌++◌, length, take, Option, None, Some, refl, ap, sym, subst, ◌∙◌, arith, length-append}
+use Rattle.std.specs.Prelude.{◌==◌, ◌&&◌}
 use Rattle.std.proofs.lemmas.List.{take_all}
-use Rattle.std.proofs.lemmas.Bool.{cases_Bool, cases_lt, and_parts, eqb-true, eq-eqb}
-use Rattle.tap_scenario.specs.Scenario.{IsScript, ScenarioValue}
+use Rattle.std.proofs.lemmas.Bool.{cases_Bool, cases_lt, eqb-true, eq-eqb}
+use Rattle.tap_scenario.specs.Scenario.{IsScript}
 use Rattle.tap_log.specs.declared.record.Record.{Record}
 use Rattle.tap_log.specs.declared.record.Record.TheVariants.{Finished}
 use Rattle.tap_log.specs.Counts.{sent_count}
 use Rattle.tap_lawful.specs.PlayedLaws.{BeginsWith}
-use Rattle.tap_lawful.specs.Runs.{IsLawful, IsRunLog, IsRunSoFar, IsSpentBy, next_records}
+use Rattle.tap_lawful.specs.Runs.{IsLawful, IsRunLog, IsRunSoFar, next_records}
 use Rattle.tap_lawful.proofs.Runs.{runs_by_carrier}
 use Rattle.tap_lawful.proofs.SameGroups.{begins_with}
 use Rattle.tap_replay.specs.declared.end.End.TheVariants.{Done, NoMemory as EndNoMemory, Spent}
@@ -17,13 +16,11 @@ use Rattle.tap_replay.specs.declared.end.Turned.{Turned}
 use Rattle.tap_replay.specs.declared.end.Turned.TheVariants.{More, Over}
 use Rattle.tap_own_scripts.specs.Judging.{ComesOrSpends, IsUnlawful, StandsBetween}
 use Rattle.tap_own_scripts.specs.Own.{own_script}
-use Rattle.tap_own_scripts.specs.Stops.{GroupComes}
 use Rattle.tap_own_scripts.proofs.Fronts.{begins_self, same_front, size_of}
 use Rattle.tap_own_scripts.proofs.Judging.{judges_hold}
 use Rattle.tap_judge.specs.Comparing.{SameUntil, verdict_at, verdict_at_end, verdict_by}
 use Rattle.tap_judge.specs.Verdict.{IsVerdictOn}
 use Rattle.tap_judge.specs.declared.verdict.Verdict.{Verdict}
-use Rattle.tap_judge.specs.declared.verdict.Verdict.TheVariants.{Lawful, Unlawful}
 use Rattle.tap_judge.proofs.Leaving.{Leaves, left_log, left_whole, run_so_far}
 use Rattle.tap_judge.proofs.Leaving.Leaves.{adds, adds_last, finishes, spends}
 

@@ -1,5 +1,5 @@
 use Rattle.std.proofs.Common.{arith}
-use Rattle.tap_judge.proofs.Causes.{few_records, lawful_cause, memory_cause, unlawful_cause, unread_cause}
+use Rattle.tap_judge.proofs.Causes.{few_records}
 use Rattle.tap_judge.proofs.top.judge_source.Goals as goal
 
 pub judge-requires-clause-few : goal.judge-requires-clause-few
