@@ -1,4 +1,5 @@
 -- A reader that has taken the first lines of some bytes: what is known of them, and which line is the first that no log's text has.
+-- Cited above: one_log
 use Rattle.std.proofs.Common.{◌≡◌, inl, inr, ℕ, suc, ◌+◌, ◌-◌, ◌==◌, false, List, [], ◌∷◌, ◌++◌, length, None, Some, refl, ap, sym, subst, ◌∙◌, arith, append-nil, append_assoc, length-append}
 use Rattle.std.specs.Prelude.{option_and_then}
 use Rattle.std.proofs.lemmas.List.{map-append, nil_from_length}

@@ -9,5 +9,5 @@ mod Kept
 mod Completes
 mod Accepts
 mod Accepted
-mod Exact
-mod Unique
+pub mod Exact
+pub mod Unique

@@ -1,4 +1,5 @@
 -- The line at which bytes show that they are no log is one.
+-- Cited above: one_refused
 use Rattle.std.proofs.Common.{◌≡◌, inl, inr, ℕ, zero, suc, ◌+◌, ◌-◌, ◌<◌, ◌≤◌, ◌==◌, cond, List, [], ◌∷◌, ◌++◌, refl, ap, sym, subst, ◌∙◌, arith, append_assoc}
 use Rattle.std.proofs.lemmas.Bool.{cases_Bool, cases_lt}
 use Rattle.tap_shape.specs.Text.{BeginsText, IsNotLog, IsTextOf, first_lines, line_count}
