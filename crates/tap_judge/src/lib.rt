@@ -12,8 +12,6 @@ mod line;
 mod own_run;
 mod reading;
 mod status;
-#[cfg(test)]
-mod tests;
 mod top;
 mod verdict;
 
