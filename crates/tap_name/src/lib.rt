@@ -6,6 +6,7 @@ mod list;
 mod memory;
 mod name;
 mod name_digits;
+mod reading;
 mod settings;
 mod slot;
 #[cfg(test)]
@@ -14,8 +15,9 @@ mod word;
 
 pub use list::List;
 pub use memory::NoMemory;
-pub use name::{Name, NameFault, USUAL_DIGITS, read_name, text_of_digit};
+pub use name::{Name, NameFault, USUAL_DIGITS, text_of_digit};
 pub use name_digits::NameDigits;
+pub use reading::read_name;
 pub use settings::Settings;
 pub use slot::{Offered, Slot, next_cyclic, slot_of};
 pub use word::are_word_bytes;

@@ -1,7 +1,7 @@
 use Rattle.std.proofs.Common.{◌∙◌, ap, arith, refl, sym, Ok}
 use Rattle.tap_name.proofs.Read.{all_good}
 use Rattle.tap_name.proofs.Values.{bad_found, each_below}
-use Rattle.tap_name.proofs.name.name_of.Goals as goal
+use Rattle.tap_name.proofs.reading.name_of.Goals as goal
 
 pub unwrap-requires : goal.unwrap-requires
 unwrap-requires c =

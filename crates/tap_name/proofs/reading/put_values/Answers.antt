@@ -1,7 +1,7 @@
 use Rattle.std.proofs.Common.{◌∙◌, ap, arith, length-set, set, take, ◌+◌}
 use Rattle.tap_name.specs.Digits.{digit_of_text}
 use Rattle.tap_name.proofs.Values.{map-all, map-more}
-use Rattle.tap_name.proofs.name.put_values.Goals as goal
+use Rattle.tap_name.proofs.reading.put_values.Goals as goal
 
 pub loop-at-preserved : goal.loop-at-preserved
 loop-at-preserved c =

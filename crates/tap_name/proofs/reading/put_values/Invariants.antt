@@ -1,6 +1,6 @@
 use Rattle.std.proofs.Common.{◌≡◌, length, take, map}
 use Rattle.tap_name.specs.Digits.{digit_of_text}
-use Rattle.tap_name.proofs.name.put_values.Given as goal
+use Rattle.tap_name.proofs.reading.put_values.Given as goal
 
 abbrev pub invariant-loop-at : goal.invariant-loop-at
 invariant-loop-at l = record {

@@ -1,6 +1,6 @@
 use Rattle.std.proofs.Common.{sym, arith, ◌∙◌}
 use Rattle.tap_name.proofs.Texts.{name_of_text-exact}
-use Rattle.tap_name.proofs.name.read_name.Goals as goal
+use Rattle.tap_name.proofs.reading.read_name.Goals as goal
 
 pub returns-clause-exact : goal.returns-clause-exact
 returns-clause-exact c name =
