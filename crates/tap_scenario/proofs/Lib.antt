@@ -1,6 +1,7 @@
 mod Arrays
 mod Bytes
 mod Casts
+mod Decimals
 mod Keys
 mod Members
 pub mod Numbers

@@ -5,7 +5,8 @@ ghost use Rattle.tap_scenario.specs.Step.{IsStep, one_name, two_names, one_numbe
 
 use crate::cast::{Prefix, Word};
 use crate::kind::{FROM, Kind, MIXED, NEWEST, NameKind, PairKind, PlaceKind, TO};
-use crate::words::{Words, read_number};
+use crate::number::read_number;
+use crate::words::Words;
 use tap_name::{Name, Settings, read_name};
 
 // The greatest place.

@@ -1,9 +1,9 @@
 ghost use Rattle.std.specs.Prelude.{◌≡◌, ◌==◌, ◌+◌, ◌≤◌, [], ◌∷◌, position, MatchOption, IfSome, option_copied, option_map};
-ghost use Rattle.tap_scenario.specs.Step.{number_below, one_number, two_numbers, only};
+ghost use Rattle.tap_scenario.specs.Step.{one_number, two_numbers, only};
 ghost use Rattle.tap_scenario.specs.Words.{words, words_left, words_around};
 
+use crate::number::read_number;
 use crate::step::Step;
-use itoa::Buffer;
 use std::marker::Model;
 
 /// The words of a text that are left: what stands before, between and after its spaces. One space stands between each two
@@ -29,39 +29,6 @@ fn first_space(text: &[u8]) -> Option<usize>
     ensures { result ≡ position (λ byte. byte == 32) text.now }
 {
     text.iter().position(|byte| *byte == b' ')
-}
-
-// The number that a text writes, if it is at most so much. The text is parsed, and has to be what the number prints
-// as.
-fn number_of_text(text: &str, most: u64) -> Option<u64>
-    ensures value { result ≡ number_below (most + 1) text.now }
-    ensures to { IfSome result (λ number. number ≤ most) }
-{
-    match text.parse::<u64>() {
-        Ok(number) => {
-            let mut buffer = Buffer::new();
-            if buffer.format(number) == text {
-                if number <= most { Some(number) } else { None }
-            } else {
-                None
-            }
-        }
-        Err(_) => None,
-    }
-}
-
-/// The number that a word writes in decimal, if it is at most `most`. `None` exactly if the word isn't how such a number prints: a
-/// sign, a leading zero, anything but digits, a greater number, or nothing.
-///
-/// Rule: docs/FORMATS.md, "The scenario".
-pub fn read_number(word: &[u8], most: u64) -> Option<u64>
-    ensures value { result ≡ number_below (most + 1) word.now }
-    ensures to { IfSome result (λ number. number ≤ most) }
-{
-    match std::str::from_utf8(word) {
-        Ok(text) => number_of_text(text, most),
-        Err(_) => None,
-    }
 }
 
 impl<'a> Words<'a> {

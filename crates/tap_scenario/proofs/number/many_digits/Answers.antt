@@ -3,7 +3,7 @@ use Rattle.std.proofs.lemmas.Fmt.{IsAscii-decimal}
 use Rattle.std.proofs.lemmas.Str.{IsUtf8-from_ascii}
 use Rattle.std.specs.Str.{IsUtf8}
 use Rattle.tap_scenario.proofs.Numbers.{number_below-none}
-use Rattle.tap_scenario.proofs.words.read_number.Goals as goal
+use Rattle.tap_scenario.proofs.number.many_digits.Goals as goal
 
 pub returns-in-Err-clause-value : goal.returns-in-Err-clause-value
 returns-in-Err-clause-value c =

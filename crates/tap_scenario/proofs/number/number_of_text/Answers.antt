@@ -5,7 +5,7 @@ use Rattle.std.proofs.lemmas.Bool.{false≢true}
 use Rattle.std.proofs.lemmas.Fmt.{parse-decimal}
 use Rattle.std.proofs.lemmas.Slice.Eq.{bytes_eq-Decides}
 use Rattle.tap_scenario.proofs.Numbers.{number_below-decimal, number_below-none}
-use Rattle.tap_scenario.proofs.words.number_of_text.Goals as goal
+use Rattle.tap_scenario.proofs.number.number_of_text.Goals as goal
 
 pub returns-in-Err-clause-value : goal.returns-in-Err-clause-value
 returns-in-Err-clause-value c =
