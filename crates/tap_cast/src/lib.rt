@@ -5,8 +5,6 @@
 mod casts;
 mod target;
 mod targets;
-#[cfg(test)]
-mod tests;
 
 pub use casts::{CastTurn, Casts};
 pub use tap_table::NoMemory;

@@ -8,8 +8,6 @@
 mod leaving;
 mod notice;
 mod replacement;
-#[cfg(test)]
-mod tests;
 mod told;
 
 pub use leaving::Leaving;

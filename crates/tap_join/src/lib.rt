@@ -6,8 +6,6 @@ mod core_node;
 mod hello;
 mod joining;
 mod sought;
-#[cfg(test)]
-mod tests;
 
 pub use core_node::Core;
 pub use joining::Joining;

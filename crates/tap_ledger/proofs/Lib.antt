@@ -9,7 +9,6 @@ mod Keeping
 mod Keys
 mod Uncarried
 pub mod Adding
-mod Single
 mod LedgerBegun
 mod Asked
 mod Staying

@@ -1,7 +1,6 @@
 pub mod Woven
 pub mod Ledger
 pub mod Added
-pub mod Single
 pub mod NameLists
 pub mod Pairs
 pub mod Flights

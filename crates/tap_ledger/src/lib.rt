@@ -8,13 +8,9 @@ mod memory;
 mod names;
 mod pairs;
 mod quiet;
-#[cfg(test)]
-mod refusal_tests;
 mod refusals;
 mod roll;
 mod steps;
-#[cfg(test)]
-mod tests;
 
 pub use flights::OutstandingFrame;
 pub use ledger::Ledger;

@@ -20,8 +20,6 @@ mod refusals;
 mod same;
 mod tables;
 mod taking;
-#[cfg(test)]
-mod tests;
 
 pub use fault::LineFault;
 pub use law::{line_law, reading_law};

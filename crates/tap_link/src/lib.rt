@@ -14,8 +14,6 @@ mod pin;
 mod places;
 mod set;
 mod settled;
-#[cfg(test)]
-mod tests;
 mod word;
 
 pub use kind::{Kind, Released};

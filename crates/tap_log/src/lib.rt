@@ -7,8 +7,6 @@ mod kinds;
 mod law;
 mod log;
 mod record;
-#[cfg(test)]
-mod tests;
 
 pub use counts::{cast_count, packet_count, resent_count, sent_count, ticket_count};
 pub use frames::bytes_of;

@@ -7,8 +7,6 @@ mod making;
 mod mixer;
 mod names;
 mod steps;
-#[cfg(test)]
-mod tests;
 mod waves;
 
 pub use law::made_law;

@@ -7,8 +7,6 @@ mod covers;
 mod offer;
 mod target;
 mod targets;
-#[cfg(test)]
-mod tests;
 
 pub use covers::{Covered, Covers};
 pub use tap_table::NoMemory;

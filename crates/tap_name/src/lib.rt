@@ -9,8 +9,6 @@ mod name_digits;
 mod reading;
 mod settings;
 mod slot;
-#[cfg(test)]
-mod tests;
 mod word;
 
 pub use list::List;

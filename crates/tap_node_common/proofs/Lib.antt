@@ -1,7 +1,7 @@
 mod Stable
 mod ByReceiver
 pub mod OneSent
-mod Spellings
+pub mod Spellings
 mod OfRule
 pub mod Sending
 pub mod Pairs

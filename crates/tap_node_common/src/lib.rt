@@ -17,10 +17,6 @@ mod pointing;
 mod room;
 mod sender;
 mod strange;
-#[cfg(test)]
-mod strange_tests;
-#[cfg(test)]
-mod tests;
 
 pub use answers::take_answer;
 pub use cast_fields::CastFields;

@@ -2,5 +2,5 @@ mod AtRest
 mod Found
 mod Joined
 mod Nodes
-mod Stepped
+pub mod Stepped
 pub mod Systems

@@ -8,8 +8,6 @@ mod memory;
 mod overlay;
 mod start;
 mod step;
-#[cfg(test)]
-mod tests;
 
 pub use fault::OverlayFault;
 pub use law::overlay_law;

@@ -14,8 +14,6 @@ mod pair;
 mod pointers;
 mod relaid;
 mod state;
-#[cfg(test)]
-mod tests;
 mod walk;
 mod way;
 

@@ -9,8 +9,6 @@ mod player;
 mod run;
 mod runs;
 mod steps;
-#[cfg(test)]
-mod tests;
 mod ticks;
 mod whole;
 

@@ -24,10 +24,3 @@ mod written;
 pub use mode::Mode;
 pub use reporter::{MOST_RECORDS, Reporter, puts_write_the_text, write_log};
 pub use written::{Written, write_text};
-
-#[cfg(test)]
-mod checks;
-#[cfg(test)]
-mod line_tests;
-#[cfg(test)]
-mod tests;

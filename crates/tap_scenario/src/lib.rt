@@ -10,11 +10,7 @@ mod number;
 mod scenario;
 mod spelled;
 mod spelling;
-#[cfg(test)]
-mod spelling_tests;
 mod step;
-#[cfg(test)]
-mod tests;
 mod values;
 mod wording;
 mod words;

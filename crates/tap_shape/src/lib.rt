@@ -6,8 +6,6 @@ mod law;
 mod reader;
 mod reading;
 mod records;
-#[cfg(test)]
-mod tests;
 
 pub use fault::LogFault;
 pub use law::{shape_law, text_law};

@@ -6,8 +6,6 @@ mod law;
 mod memory;
 mod root;
 mod tables;
-#[cfg(test)]
-mod tests;
 mod walk;
 
 pub use law::{members_law, walk_law};

@@ -11,8 +11,6 @@ mod rows;
 mod sets;
 mod slot_range;
 mod table;
-#[cfg(test)]
-mod tests;
 mod tie;
 mod ties;
 

@@ -25,6 +25,3 @@ pub use kind::Kind;
 pub use laws::{head_reads_back, reads_back, spelled_so};
 pub use layout::{MOST_LETTERS, MOST_LINKS};
 pub use memory::NoMemory;
-
-#[cfg(test)]
-mod tests;

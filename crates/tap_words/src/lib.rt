@@ -4,8 +4,6 @@
 mod asked;
 mod command;
 mod law;
-#[cfg(test)]
-mod tests;
 
 pub use asked::{Asked, MOST_JOINS, WordsRefusal, read_words};
 pub use law::plain_words_law;

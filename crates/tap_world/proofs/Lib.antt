@@ -3,5 +3,3 @@ mod Remarks
 mod Marks
 mod Nodes
 mod Places
-mod Lasts
-mod Small

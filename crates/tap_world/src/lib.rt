@@ -2,8 +2,6 @@
 //! the rule of a node and the refusals give it, or says why it adds none.
 #![tactic(auto)]
 
-#[cfg(test)]
-mod tests;
 mod world;
 
 pub use tap_engine::{NoMemory, Stop};

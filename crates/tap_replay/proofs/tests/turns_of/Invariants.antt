@@ -1,7 +1,0 @@
-use Rattle.tap_engine.specs.World.{whole_log}
-use Rattle.tap_replay.specs.Player.{MayTurn}
-use Rattle.tap_replay.proofs.tests.turns_of.Given as goal
-
--- the scenario may be played on
-abbrev pub invariant-loop-turns : goal.invariant-loop-turns
-invariant-loop-turns l = MayTurn l.scenario (whole_log l.player.world)

@@ -1,0 +1,3 @@
+mod Lasts
+mod Single
+mod Small
