@@ -1,5 +1,5 @@
 -- What a log tells is what its reduced log tells.
--- Cited above: kept_sent, kept_steps, reduced_outstanding, reduced_tells
+-- Cited above: kept_sent, kept_steps, reduced_tells
 use Rattle.std.proofs.Common.{◌≡◌, ℕ, Bool, true, false, not, List, [], ◌∷◌, slice_get, Option, None, Some, refl, ap, sym, ◌∙◌, cond}
 use Rattle.std.specs.Prelude.{if◌then◌else◌}
 use Rattle.std.specs.List.{filter_map, cons_option}

@@ -1,6 +1,6 @@
 -- What the calls of a world make of its whole log, by what they answer.
 -- Cited above: finish_added, mark_added, note_added, RecordsAreAdded, step_added, step_refused, step_spent, StepIsAdded, StepIsRefused, StepIsSpent,
--- take_added, take_spent, take_unrefused, TakeIsAdded, whole_short
+-- take_added, take_spent, take_unrefused, TakeIsAdded, whole_grows, whole_short
 use Rattle.std.proofs.Common.{◌≡◌, ◌≢◌, ℕ, Bool, true, false, List, [], ◌∷◌, ◌++◌, slice_get, Option, None, Some, Result, Ok, Err, refl, ap, sym, ◌∙◌}
 use Rattle.std.specs.Prelude.{if◌then◌else◌}
 use Rattle.tap_scenario.specs.declared.step.Step.{Step}

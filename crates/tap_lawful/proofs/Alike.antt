@@ -1,5 +1,5 @@
 -- The log of a run is that of a run of each scenario that begins alike.
--- Cited above: at_of_take, played_alike
+-- Cited above: at_of_take, begun-append
 use Rattle.std.proofs.Common.{◌≡◌, inl, inr, ℕ, zero, suc, ◌+◌, ◌≤◌, List, [], ◌∷◌, ◌++◌, length, take, Some, ap, sym, subst, ◌∙◌, append_assoc}
 use Rattle.std.specs.Prelude.{slice_get}
 use Rattle.std.specs.Option.{option_map}

@@ -1,5 +1,5 @@
 -- What the last step of a carried run has chosen, and what is due by it.
--- Cited above: items_same
+-- Cited above: arrival_due, due_back, items_same
 use Rattle.std.proofs.Common.{◌≡◌, ◌⊎◌, inl, inr, ℕ, ◌≤◌, Bool, true, false, not, List, [], ◌∷◌, length, All, Option, None, Some, refl, ap, sym, subst, ◌∙◌, arith}
 use Rattle.std.specs.Prelude.{◌&&◌, fold, slice_get, Contains}
 use Rattle.std.proofs.lemmas.Bool.{eqb-true, false≢true}

@@ -1,5 +1,5 @@
 -- A scenario has one log of its carried runs: of two one begins with the other.
--- Cited above: one_carried_log_holds
+-- Cited above: one_carried_log_holds, played_compared, same_over
 use Rattle.std.proofs.Common.{◌≡◌, ◌⊎◌, inl, inr, ℕ, ◌+◌, ◌<◌, ◌≤◌, true, List, [], ◌∷◌, ◌++◌, length, take, drop, Some, ap, sym, subst, ◌∙◌, arith, append-nil, append_assoc, length-append}
 use Rattle.std.proofs.lemmas.Bool.{cases_lt}
 use Rattle.std.proofs.lemmas.List.{length-take-le, take-append-drop, take-take}

@@ -1,5 +1,5 @@
 -- The group that comes next in a carried run is a turn that may follow.
--- Cited above: added_of, IsRootSetTurn, IsTurnGroup, next_is_step, TellsNoRoots, turn_of_group
+-- Cited above: added_of, IsRootSetTurn, IsTurnGroup, next_is_step, root_set_salted, TellsNoRoots, turn_of_group
 use Rattle.std.proofs.Common.{◌≡◌, ◌⊎◌, inl, inr, ℕ, suc, ◌+◌, ◌≤◌, Bool, true, false, List, [], ◌∷◌, ◌++◌, length, map, All, Option, None, Some, refl, ap, sym, subst, ◌∙◌, arith, length-append}
 use Rattle.std.specs.Prelude.{◌&&◌, ◌==◌, slice_get}
 use Rattle.std.specs.List.{filter_map}

@@ -1,5 +1,5 @@
 -- The group that comes next is that of a frame which is due, or of the next step, and it may follow.
--- Cited above: BeginsNext, choice_alone, comes_may, coming, due_waits, TakesDue
+-- Cited above: BeginsNext, choice_alone, comes_follows, comes_may, coming, due_waits, TakesDue
 use Rattle.std.proofs.Common.{◌≡◌, ◌⊎◌, inl, inr, ℕ, zero, suc, ◌+◌, ◌≤◌, Bool, true, false, List, [], ◌∷◌, ◌++◌, Option, None, Some, refl, ap, subst, ◌∙◌}
 use Rattle.std.specs.Prelude.{◌||◌, nat_eq, slice_get}
 use Rattle.std.proofs.lemmas.Bool.{eq-eqb}

@@ -1,5 +1,5 @@
 -- A scenario has one log: of two one begins with the other.
--- Cited above: one_log_holds
+-- Cited above: one_whole_with, played_compared, same_over
 use Rattle.std.proofs.Common.{◌≡◌, ◌⊎◌, inl, inr, ◌<◌, ◌≤◌, List, [], ◌∷◌, ◌++◌, length, ap, sym, subst, ◌∙◌, arith, append-nil, append_assoc}
 use Rattle.tap_scenario.specs.Scenario.{ScenarioValue}
 use Rattle.tap_log.specs.declared.record.Record.{Record}

@@ -1,5 +1,5 @@
 -- How the log of a run grows: group by group, and as a course.
--- Cited above: by_next, played_course, played_more, played_starts, sent_count-append, sent_no_fewer, starts_with
+-- Cited above: by_coming, by_next, played_course, played_more, played_starts, sent_count-append, sent_no_fewer, starts_with
 use Rattle.std.proofs.Common.{◌≡◌, ℕ, ◌+◌, ◌≤◌, false, List, [], ◌∷◌, ◌++◌, length, take, Some, refl, ap, sym, subst, ◌∙◌, arith, append-nil, append_assoc, length-append}
 use Rattle.std.specs.Prelude.{if◌then◌else◌}
 use Rattle.std.specs.List.{filter_map}

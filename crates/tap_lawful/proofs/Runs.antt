@@ -1,5 +1,5 @@
 -- The runs of a scenario, carried or not: each law by its carrier.
--- Cited above: lawful_carried, lawful_plain, runs_by_carrier, same_beginnings
+-- Cited above: finished_log, lawful_carried, lawful_plain, runs_by_carrier, same_beginnings, spent_log, stopped_log, whole_log
 use Rattle.std.proofs.Common.{◌≡◌, ◌≢◌, ◌⊎◌, inl, inr, ◌<◌, ◌≤◌, Bool, true, false, List, [], ◌∷◌, ◌++◌, length, take, None, Some, refl, ap, sym, subst, ◌∙◌, arith, append_assoc, append-nil}
 use Rattle.std.specs.Prelude.{if◌then◌else◌}
 use Rattle.std.proofs.lemmas.List.{take-append-le}

@@ -1,5 +1,5 @@
 -- Two logs in which one and the same group comes next are the same, or one goes on after the other.
--- Cited above: Compared, GoesOn, begins_with
+-- Cited above: begins_with, Compared, GoesOn
 use Rattle.std.proofs.Common.{◌≡◌, ◌⊎◌, inl, inr, false, List, [], ◌∷◌, ◌++◌, length, take, Option, Some, refl, ap, sym, subst, ◌∙◌, append-nil, append_assoc}
 use Rattle.std.proofs.Math.Seq.{take-append_seam}
 use Rattle.tap_log.specs.declared.record.Record.{Record}

@@ -1,5 +1,5 @@
 -- The group that comes next in a run that isn't carried is a turn that may follow, and in the reduced log it comes next without its roots.
--- Cited above: ComesReduced, far_more, far_starts, grown_is, turn_next, uncarried_far, UncarriedSoFar
+-- Cited above: ComesReduced, far_more, far_starts, grown_is, same_sent, turn_next, uncarried_coming, uncarried_far, UncarriedSoFar
 use Rattle.std.proofs.Common.{◌≡◌, inl, inr, ℕ, ◌+◌, ◌*◌, ◌≤◌, Bool, false, List, [], ◌∷◌, ◌++◌, length, Option, None, Some, refl, ap, sym, subst, ◌∙◌, arith, length-append}
 use Rattle.std.proofs.lemmas.List.Elements.{All-nil}
 use Rattle.tap_name.specs.Settings.{SettingsValue}

@@ -1,5 +1,6 @@
 -- How the log of a run that isn't carried grows, and what becomes of it in the reduced log, however it has ended.
--- Cited above: plain_played, same_steps, spent_reduces, uncarried_all, uncarried_more, uncarried_runs_reduce
+-- Cited above: alone_same, none_back, one_alike, plain_played, same_steps, spent_reduces, uncarried_alike, uncarried_all, uncarried_less,
+-- uncarried_more, uncarried_runs_reduce, uncarried_steps
 use Rattle.std.proofs.Common.{◌≡◌, inl, inr, ℕ, ◌<◌, ◌≤◌, false, not, List, [], ◌∷◌, ◌++◌, cond, length, take, All, Option, None, Some, refl, ap, sym, subst, ◌∙◌, append_assoc}
 use Rattle.std.specs.Option.{option_map}
 use Rattle.std.proofs.lemmas.List.Elements.{All-head, All-tail}

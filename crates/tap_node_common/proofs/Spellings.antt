@@ -1,4 +1,5 @@
 -- When the frames of a step have spellings.
+-- Cited above: links_spelled
 use Rattle.std.proofs.Common.{ℕ, ◌≤◌, List, [], ◌∷◌, All, map}
 use Rattle.std.proofs.lemmas.List.Elements.{All-head, All-map, All-tail}
 use Rattle.tap_name.specs.Settings.{SettingsValue}

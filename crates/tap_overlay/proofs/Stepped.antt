@@ -1,4 +1,5 @@
 -- A call at the node of a name: what the node answers, and what becomes of the nodes.
+-- Cited above: of_found
 use Rattle.std.proofs.Common.{◌≡◌, ℕ, Bool, true, false, List, Option, None, Some, Result, Err, ap, refl, sym, subst, ◌∙◌}
 use Rattle.std.specs.Option.{IfSome, is_some, option_copied}
 use denote.Ref.{Bor}

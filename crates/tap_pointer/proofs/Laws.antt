@@ -1,7 +1,7 @@
 -- What each call leaves: what is known of every pair afterwards, and what pointers keep.
 -- Cited above: are-all_withdrawn, are-lay_applied, are-none, are-published, are-reconciled, are-withdrawn, is_same, laid_sends_nothing,
--- published_lays_others, put_lays_others, reconciled_is_laid, state_of-lay_applied, state_of-published, state_of-withdrawn, withdrawn_lays_others,
--- withdrawn_owner
+-- lay_applied_lays_others, published_lays_others, put_lays_others, reconciled_is_laid, state_of-lay_applied, state_of-published, state_of-withdrawn,
+-- withdrawn_lays_others, withdrawn_owner
 use Rattle.std.proofs.Common.{◌≡◌, ℕ, ◌≤◌, Bool, true, false, List, [], ◌∷◌, length, map, Option, Some, refl, sym, ap, subst, ◌∙◌, inl, inr, if◌then◌else◌}
 use Rattle.std.specs.BTreeMap.{insert_entry, is_at}
 use Rattle.std.specs.List.{All}

@@ -1,5 +1,5 @@
 -- The objects that are held or laid are names of the settings after each call too, if the object of the call is one.
--- Cited above: names-published, names-reconciled, names-withdrawn
+-- Cited above: names-lay_applied, names-published, names-reconciled, names-withdrawn
 use Rattle.std.proofs.Common.{◌≡◌, ℕ, true, false, List, [], ◌∷◌, map, None, refl, ap, subst, inl, inr}
 use Rattle.std.specs.List.{All}
 use Rattle.std.specs.Option.{is_some}

@@ -1,5 +1,5 @@
 -- The puts of records, one after another.
--- Cited above: Reports-finish, Reports-new
+-- Cited above: begins_next, BeginsAfter-from, IsPrintableLog-push, Reports-finish, Reports-new, Reports-next, Reports-put_all
 use Rattle.std.proofs.Common.{◌≡◌, ◌<◌, ℕ, zero, suc, ◌+◌, List, [], ◌∷◌, ◌++◌, length, take, drop, get_or, true, Option, None, Some, IsNone, All, refl, sym, ap, ◌∙◌, subst, arith, append_assoc, append-nil, length-append}
 use Rattle.std.specs.Prelude.{◌↔◌, fold, is_some, IsSome}
 use Rattle.std.proofs.lemmas.List.Elements.{All-drop, All-get_or, All-push}

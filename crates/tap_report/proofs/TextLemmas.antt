@@ -1,5 +1,5 @@
 -- The texts of items and of records with one more, and what each record must meet.
--- Cited above: lower_digit, same_settings
+-- Cited above: ArePrintable-at, lower_digit, same_settings, settings_so_far-push
 use Rattle.std.proofs.Common.{◌≡◌, ◌<◌, ◌≤◌, ℕ, zero, suc, ◌+◌, ◌-◌, ◌==◌, ◌&&◌, Bool, inl, inr, List, [], ◌∷◌, ◌++◌, length, take, drop, get_or, Option, None, refl, sym, ap, ◌∙◌, subst, arith, append_assoc, append-nil, take-add}
 use Rattle.std.specs.Prelude.{fold, true, false, if◌then◌else◌}
 use Rattle.std.specs.Prelude.{◌/◌, ◌%◌, slice_index, slice_range}
