@@ -1,7 +1,6 @@
 use std::alloc::{AllocError, Global};
 use std::test::Fail;
 use tap_io::{MemorySink, MemorySource};
-use tap_log::Record;
 use tap_top::{Ended, Status, run};
 
 /// A scenario of one walk over five members, line by line.
@@ -36,13 +35,12 @@ pub(crate) fn with_line(alloc: Global, place: usize, line: &str) -> Result<Strin
 }
 
 /// What a run left: how it ended, with regard to writing and without, how many records the log of its world has, none if no
-/// world is left, whether one of them says that a step is refused, and the bytes that it wrote.
+/// world is left, and the bytes that it wrote.
 #[derive(Drop)]
 pub(crate) struct Outcome {
     pub(crate) status: Status,
     pub(crate) before: Status,
     pub(crate) records: usize,
-    pub(crate) refuses: bool,
     pub(crate) written: Vec<u8>,
 }
 
@@ -72,8 +70,7 @@ pub(crate) fn run_words(
     Ok(Outcome {
         status: ended.status,
         before: ended.before,
-        records: records_of(&ended).len(),
-        refuses: refuses(records_of(&ended)),
+        records: record_count(&ended),
         written,
     })
 }
@@ -87,20 +84,10 @@ fn owned(alloc: Global, words: &[&str]) -> Result<Vec<String>, Fail> {
     Ok(texts)
 }
 
-// The records of the log of the world that is left; none if no world is.
-fn records_of(ended: &Ended) -> &[Record] {
+// How many records the log of the world that is left has; none if no world is.
+fn record_count(ended: &Ended) -> usize {
     match &ended.world {
-        Some(world) => world.log().as_slice(),
-        None => &[],
+        Some(world) => world.log().len(),
+        None => 0,
     }
-}
-
-// Whether one of these records says that a step is refused.
-fn refuses(records: &[Record]) -> bool {
-    for item in records {
-        if let Record::Refused { .. } = item {
-            return true;
-        }
-    }
-    false
 }

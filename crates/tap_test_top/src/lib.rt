@@ -6,16 +6,10 @@
 #[cfg(test)]
 mod accepted;
 #[cfg(test)]
-mod carried;
-#[cfg(test)]
 mod counted;
 #[cfg(test)]
 mod devices;
 #[cfg(test)]
-mod orders;
-#[cfg(test)]
 mod outcome;
 #[cfg(test)]
 mod refused;
-#[cfg(test)]
-mod worked;

@@ -118,33 +118,6 @@ fn a_newcomer_joins(rt: HostRuntime) -> Result<(), Fail> {
     Ok(())
 }
 
-// What is printed in brief of an object that is published, and whose root a newcomer then becomes.
-const PUBLISHED: &str = "begin base 4 digits 3 width 2 frames 200000
-published 123 at 301
-pointers 233 count 1
-pointer 123 301
-core 120
-pointers 233 count 0
-pointers 120 count 1
-pointer 123 301
-done 7
-";
-
-// The pointer goes to the newcomer though nobody looks the object up.
-#[test]
-fn a_pointer_moves_without_a_lookup(rt: HostRuntime) -> Result<(), Fail> {
-    let alloc = rt.alloc();
-    let text = with_line(
-        alloc,
-        4,
-        "steps = [\"publish 123 at 301\", \"settle\", \"pointers 233\", \"join 120 via 012\", \"settle\", \"pointers 233\", \"pointers 120\"]",
-    )?;
-    let outcome = run_words(alloc, &["--brief"], text.as_bytes(), &[], &[])?;
-    assert_eq!(rt; outcome.status, Status::Done);
-    assert_eq!(rt; outcome.written.as_slice(), PUBLISHED.as_bytes());
-    Ok(())
-}
-
 // With a limit of one frame the next step of a node would send a second one.
 #[test]
 fn a_run_is_spent(rt: HostRuntime) -> Result<(), Fail> {
@@ -174,21 +147,5 @@ fn a_scenario_is_made(rt: HostRuntime) -> Result<(), Fail> {
         outcome.written.as_slice(),
         b"nodes 28\nframes 131\nhops 2\nanswered 30\n".as_slice()
     );
-    Ok(())
-}
-
-// A scenario that is made for twelve joins gives the same summary each time, and none of its steps is refused.
-#[test]
-fn a_scenario_of_twelve_joins_is_made_twice(rt: HostRuntime) -> Result<(), Fail> {
-    let words = ["--make", "12", "--seed", "1"];
-    for _ in 0..2 {
-        let outcome = run_words(rt.alloc(), &words, b"".as_slice(), &[1], &[])?;
-        assert_eq!(rt; outcome.status, Status::Done);
-        assert!(rt; !outcome.refuses);
-        assert_eq!(rt;
-            outcome.written.as_slice(),
-            b"nodes 38\nframes 1443\nhops 2\nanswered 30\n".as_slice()
-        );
-    }
     Ok(())
 }
