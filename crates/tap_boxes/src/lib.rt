@@ -6,8 +6,6 @@ mod boxes;
 mod inboxes;
 mod memory;
 mod outboxes;
-#[cfg(test)]
-mod tests;
 
 pub use boxes::Boxes;
 pub use memory::NoMemory;

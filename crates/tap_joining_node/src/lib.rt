@@ -2,7 +2,5 @@
 #![tactic(auto)]
 
 mod joining_node;
-#[cfg(test)]
-mod tests;
 
 pub use joining_node::{Joined, JoiningNode};

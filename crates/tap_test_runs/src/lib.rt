@@ -4,6 +4,10 @@
 #![tactic(auto)]
 
 #[cfg(test)]
+mod boxes;
+#[cfg(test)]
+mod joining_node;
+#[cfg(test)]
 mod ledger;
 #[cfg(test)]
 mod ledger_refusal;

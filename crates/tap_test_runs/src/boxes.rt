@@ -1,8 +1,8 @@
 ghost use Rattle.std.specs.Prelude.{◌+◌, ◌≤◌, ℕ, List};
 ghost use Rattle.tap_boxes.specs.Boxes.{outbox_of};
 
-use crate::Boxes;
 use std::process::Abort;
+use tap_boxes::Boxes;
 use tap_carry::{MOST_FRAMES, MOST_PACKETS, Numbered, Packet};
 use tap_name::{Name, Settings};
 

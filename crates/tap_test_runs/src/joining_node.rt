@@ -1,5 +1,5 @@
-use crate::JoiningNode;
 use std::test::Fail;
+use tap_joining_node::JoiningNode;
 use tap_name::{Settings, read_name};
 use tap_node_common::FrameList;
 
