@@ -16,9 +16,7 @@ use Rattle.tap_line.specs.Line.{text_of_line}
 use Rattle.tap_shape.specs.declared.reader.Begun.{Begun}
 use Rattle.tap_shape.specs.declared.reader.Open.{Open}
 use Rattle.tap_shape.specs.declared.reader.Open.TheVariants.{Members, Ready, Links, Pairs, Over}
-use Rattle.tap_shape.specs.declared.reader.Reader.{Reader}
-use Rattle.tap_shape.specs.declared.reader.Reader.TheVariants as reader
-use Rattle.tap_shape.specs.Reader.{after, closed, closed_with, ended, finished}
+use Rattle.tap_shape.specs.Reader.{HasBegun, Reader, after, closed, closed_with, ended, finished}
 use Rattle.tap_shape.specs.Shape.{IsShape, IsShaped}
 use Rattle.tap_shape.specs.Text.{IsTextOf, last_line}
 use Rattle.tap_shape.proofs.Accepts.{Closes, begin_closes, one_text, record_closes, start, taken-append, texts_taken}
@@ -43,7 +41,7 @@ taken_both p r next last lines more taken later =
 
 items_close : (p : SettingsValue) (r : Begun) (done items : List Record) → AreWithinLimits p → r.settings ≡ p → closed r ≡ Some done
     → r.steps ≡ length (begun_steps done) → GoOn p done items
-    → Closes p (reader.Begun r) (texts_of p (lines_of_log items)) (done ++ items)
+    → Closes p (HasBegun r) (texts_of p (lines_of_log items)) (done ++ items)
 items_close p r done [] limits same closes counted go = record {
   next = r;
   taken = refl;
@@ -56,13 +54,13 @@ items_close p r done (entry ∷ items) limits same closes counted go =
     let shaped : IsShaped r.settings (is_carried r.records) entry =
     subst (λ s. IsShaped s (is_carried r.records) entry) (sym same) (subst (λ c. IsShaped p c entry) carried go.0) in
     let own : AreWithinLimits r.settings = subst AreWithinLimits (sym same) limits in
-    let one : Closes p (reader.Begun r) (texts_of p (lines_of_record entry)) (done ++ entry ∷ []) =
-    subst (λ s. Closes s (reader.Begun r) (texts_of s (lines_of_record entry)) (done ++ entry ∷ [])) same
+    let one : Closes p (HasBegun r) (texts_of p (lines_of_record entry)) (done ++ entry ∷ []) =
+    subst (λ s. Closes s (HasBegun r) (texts_of s (lines_of_record entry)) (done ++ entry ∷ [])) same
     (record_closes r done own closes counted entry shaped go.1) in
     let rest = items_close p one.next (done ++ entry ∷ []) items limits one.settings one.closes one.steps go.2 in
     record {
       next = rest.next;
-      taken = taken_both p (reader.Begun r) (reader.Begun one.next) (reader.Begun rest.next) (lines_of_record entry) (lines_of_log items)
+      taken = taken_both p (HasBegun r) (HasBegun one.next) (HasBegun rest.next) (lines_of_record entry) (lines_of_log items)
           one.taken rest.taken;
       settings = rest.settings;
       closes = rest.closes ∙ ap Some (append_assoc done (entry ∷ []) items);
@@ -120,7 +118,7 @@ begun_closes p frames members items valid few all =
     let rest = items_close p one.next (first ∷ []) items valid.settings one.settings one.closes one.steps (all_go p first items all few) in
     record {
       next = rest.next;
-      taken = taken_both p start (reader.Begun one.next) (reader.Begun rest.next) (lines_of_record first) (lines_of_log items) one.taken rest.taken;
+      taken = taken_both p start (HasBegun one.next) (HasBegun rest.next) (lines_of_record first) (lines_of_log items) one.taken rest.taken;
       settings = rest.settings;
       closes = rest.closes;
       steps = rest.steps;
@@ -168,7 +166,7 @@ text_finishes bytes log is =
         texts = texts;
         unfed = log_unfed log shape;
         are = same ∙ log_text log shape;
-        next = reader.Begun next;
+        next = HasBegun next;
         taken = all.taken;
         ends = closed_finishes next.settings next.records log next.steps next.pending all.closes;
       }
@@ -176,11 +174,11 @@ text_finishes bytes log is =
         texts = texts ++ last ∷ [];
         unfed = unfed-append texts (last ∷ []) (log_unfed log shape) (end_unfed p shape.valid.settings, tt);
         are = same ∙ ap (λ t. t ++ last_line) (log_text log shape) ∙ sym (fed-append texts (last ∷ []));
-        next = reader.Begun (after next next.steps Over log);
+        next = HasBegun (after next next.steps Over log);
         taken = taken-append (Some start) texts (last ∷ []) ∙ ap (λ o. texts_taken o (last ∷ [])) all.taken
             ∙ ap (λ o. texts_taken o [])
             (one_text next line.End (subst AreWithinLimits (sym all.settings) shape.valid.settings) tt
-            ∙ ap (λ o. option_map reader.Begun (option_map (after next next.steps Over) o)) all.closes);
+            ∙ ap (λ o. option_map HasBegun (option_map (after next next.steps Over) o)) all.closes);
         ends = refl;
       }
     ]

@@ -23,9 +23,7 @@ use Rattle.tap_line.proofs.Exact.{lines_are_read_back}
 use Rattle.tap_shape.specs.declared.reader.Begun.{Begun}
 use Rattle.tap_shape.specs.declared.reader.Open.{Open}
 use Rattle.tap_shape.specs.declared.reader.Open.TheVariants.{Members, Ready, Links, Pairs}
-use Rattle.tap_shape.specs.declared.reader.Reader.{Reader}
-use Rattle.tap_shape.specs.declared.reader.Reader.TheVariants as reader
-use Rattle.tap_shape.specs.Reader.{after, closed, first_line, line_at, line_taken, may_send, one_step_more, steps_with, text_taken}
+use Rattle.tap_shape.specs.Reader.{HasBegun, Reader, Start, after, closed, first_line, line_at, line_taken, may_send, one_step_more, steps_with, text_taken}
 use Rattle.tap_shape.specs.Shape.{IsPair, IsShaped}
 use Rattle.tap_shape.proofs.Distinct.{new_after}
 use Rattle.tap_shape.proofs.Lines.{frames_few, lines_of_record, texts_of}
@@ -44,7 +42,7 @@ taken-append (Some r) [] us = refl
 taken-append (Some r) (t ∷ ts) us = taken-append (text_taken r t) ts us
 
 abbrev pub start : Reader
-start = reader.Start []
+start = Start []
 
 -- a reader of these parts
 abbrev at : SettingsValue → List Record → ℕ → Open → Begun
@@ -52,15 +50,15 @@ at p records steps pending = record { settings = p; records = records; steps = s
 
 -- the text of a line is taken as the line is
 pub one_text : (r : Begun) (l : Line) → AreWithinLimits r.settings → IsLine r.settings (is_carried r.records) l
-    → text_taken (reader.Begun r) (text_of_line r.settings l) ≡ option_map reader.Begun (line_taken r l)
+    → text_taken (HasBegun r) (text_of_line r.settings l) ≡ option_map HasBegun (line_taken r l)
 unfolding line_at
 one_text r l limits fits =
-    ap (λ o. option_map reader.Begun (option_and_then (line_taken r) o))
+    ap (λ o. option_map HasBegun (option_and_then (line_taken r) o))
     ((lines_are_read_back.any_line r.settings (is_carried r.records) (text_of_line r.settings l) l limits).1 (refl, fits))
 
 -- the first line
 first_text : (first : Beginning) → IsBeginning first → may_send first.settings first.frames ≡ true
-    → text_taken start (begin_line first.settings first.frames) ≡ Some (reader.Begun (at first.settings [] 0 (Members first.frames [])))
+    → text_taken start (begin_line first.settings first.frames) ≡ Some (HasBegun (at first.settings [] 0 (Members first.frames [])))
 unfolding first_line
 first_text first is may =
     let read = (lines_are_read_back.beginning (begin_line first.settings first.frames) first).1 (refl, is) in
@@ -70,21 +68,21 @@ first_text first is may =
 
 members_taken : (p : SettingsValue) (frames : ℕ) (before members : List (List ℕ)) → AreWithinLimits p → length before + length members ≤ most_members
     → AreDistinct (before ++ members) → AllByRecursion (IsName p) members
-    → texts_taken (Some (reader.Begun (at p [] 0 (Members frames before)))) (texts_of p (map line.Member members))
-    ≡ Some (reader.Begun (at p [] 0 (Members frames (before ++ members))))
+    → texts_taken (Some (HasBegun (at p [] 0 (Members frames before)))) (texts_of p (map line.Member members))
+    ≡ Some (HasBegun (at p [] 0 (Members frames (before ++ members))))
 members_taken p frames before [] limits few distinct names =
-    ap (λ l. Some (reader.Begun (at p [] 0 (Members frames l)))) (sym (append-nil before))
+    ap (λ l. Some (HasBegun (at p [] 0 (Members frames l)))) (sym (append-nil before))
 members_taken p frames before (name ∷ members) limits few distinct names =
     let longer = length-append before (name ∷ []) in
     let room : nat_le most_members (length before) ≡ false = lt-leb most_members (length before) (omega (arith, few)) in
     let new = new_after before members name distinct in
     let one : line_taken (at p [] 0 (Members frames before)) (line.Member name) ≡ Some (at p [] 0 (Members frames (before ++ name ∷ []))) =
     rw (room, new) refl in
-    let text = one_text (at p [] 0 (Members frames before)) (line.Member name) limits names.0 ∙ ap (option_map reader.Begun) one in
+    let text = one_text (at p [] 0 (Members frames before)) (line.Member name) limits names.0 ∙ ap (option_map HasBegun) one in
     ap (λ o. texts_taken o (texts_of p (map line.Member members))) text
     ∙ members_taken p frames (before ++ name ∷ []) members limits (omega (arith, few, longer))
     (subst AreDistinct (sym (append_assoc before (name ∷ []) members)) distinct) names.1
-    ∙ ap (λ l. Some (reader.Begun (at p [] 0 (Members frames l)))) (append_assoc before (name ∷ []) members)
+    ∙ ap (λ l. Some (HasBegun (at p [] 0 (Members frames l)))) (append_assoc before (name ∷ []) members)
 
 -- further lines of a table or of pointers
 module _ {A : Type 0} (p : SettingsValue) (records : List Record) (steps : ℕ) (pending : List A → ℕ → Open) (make : A → Line)
@@ -92,9 +90,9 @@ module _ {A : Type 0} (p : SettingsValue) (records : List Record) (steps : ℕ) 
     (takes : (before : List A) (a : A) (left : ℕ) → line_taken (at p records steps (pending before left)) (make a)
     ≡ (if left == 0 then None else Some (at p records steps (pending (before ++ a ∷ []) (left - 1))))) where
   further_taken : (before xs : List A) → AllByRecursion IsOne xs
-      → texts_taken (Some (reader.Begun (at p records steps (pending before (length xs))))) (texts_of p (map make xs))
-      ≡ Some (reader.Begun (at p records steps (pending (before ++ xs) 0)))
-  further_taken before [] all = ap (λ l. Some (reader.Begun (at p records steps (pending l 0)))) (sym (append-nil before))
+      → texts_taken (Some (HasBegun (at p records steps (pending before (length xs))))) (texts_of p (map make xs))
+      ≡ Some (HasBegun (at p records steps (pending (before ++ xs) 0)))
+  further_taken before [] all = ap (λ l. Some (HasBegun (at p records steps (pending l 0)))) (sym (append-nil before))
   further_taken before (a ∷ xs) all =
       let some : (length (a ∷ xs) == 0) ≡ false = ne_eqb (length (a ∷ xs)) 0 (λ e. absurd (omega (arith, e))) in
       let less : length (a ∷ xs) - 1 ≡ length xs = omega arith in
@@ -103,16 +101,16 @@ module _ {A : Type 0} (p : SettingsValue) (records : List Record) (steps : ℕ) 
       takes before a (length (a ∷ xs))
       ∙ ap (λ b. if b then None else Some (at p records steps (pending (before ++ a ∷ []) (length (a ∷ xs) - 1)))) some
       ∙ ap (λ n. Some (at p records steps (pending (before ++ a ∷ []) n))) less in
-      let text = one_text (at p records steps (pending before (length (a ∷ xs)))) (make a) limits (fits a all.0) ∙ ap (option_map reader.Begun) one in
+      let text = one_text (at p records steps (pending before (length (a ∷ xs)))) (make a) limits (fits a all.0) ∙ ap (option_map HasBegun) one in
       ap (λ o. texts_taken o (texts_of p (map make xs))) text ∙ further_taken (before ++ a ∷ []) xs all.1
-      ∙ ap (λ l. Some (reader.Begun (at p records steps (pending l 0)))) (append_assoc before (a ∷ []) xs)
+      ∙ ap (λ l. Some (HasBegun (at p records steps (pending l 0)))) (append_assoc before (a ∷ []) xs)
 
 -- ---- one record more
 
 -- after these texts the reader may end with this log
 pub record Closes (p : SettingsValue) (r : Reader) (texts : List (List ℕ)) (log : List Record) : Type 0 where
   pub next : Begun
-  pub taken : texts_taken (Some r) texts ≡ Some (reader.Begun next)
+  pub taken : texts_taken (Some r) texts ≡ Some (HasBegun next)
   pub settings : next.settings ≡ p
   pub closes : closed next ≡ Some log
   pub steps : next.steps ≡ length (begun_steps log)
@@ -136,12 +134,12 @@ module _ (r : Begun) (done : List Record) (limits : AreWithinLimits r.settings) 
   -- the first line of a table or of pointers
   opens : (pending : Open) (l : Line) → line_taken r l ≡ option_map (after r r.steps pending) (closed r)
       → IsLine r.settings (is_carried r.records) l
-      → text_taken (reader.Begun r) (text_of_line r.settings l) ≡ Some (reader.Begun (at r.settings done r.steps pending))
+      → text_taken (HasBegun r) (text_of_line r.settings l) ≡ Some (HasBegun (at r.settings done r.steps pending))
   opens pending l takes fits =
-      one_text r l limits fits ∙ ap (option_map reader.Begun) (takes ∙ ap (option_map (after r r.steps pending)) closes)
+      one_text r l limits fits ∙ ap (option_map HasBegun) (takes ∙ ap (option_map (after r r.steps pending)) closes)
 
   whole_closes : (entry : Record) → IsWhole r.settings (is_carried r.records) entry → length (begun_steps (done ++ entry ∷ [])) ≤ most_steps
-      → Closes r.settings (reader.Begun r) (texts_of r.settings (line.Whole entry ∷ [])) (done ++ entry ∷ [])
+      → Closes r.settings (HasBegun r) (texts_of r.settings (line.Whole entry ∷ [])) (done ++ entry ∷ [])
   whole_closes entry fits few =
       let more = length (at_most_one (step_of entry)) in
       let size = counted_with done entry in
@@ -151,7 +149,7 @@ module _ (r : Begun) (done : List Record) (limits : AreWithinLimits r.settings) 
       ∙ ap (option_map (λ records. after r (r.steps + more) Ready (records ++ entry ∷ []))) closes in
       record {
         next = at r.settings (done ++ entry ∷ []) (r.steps + more) Ready;
-        taken = ap (λ o. texts_taken o []) (one_text r (line.Whole entry) limits fits ∙ ap (option_map reader.Begun) one);
+        taken = ap (λ o. texts_taken o []) (one_text r (line.Whole entry) limits fits ∙ ap (option_map HasBegun) one);
         settings = refl;
         closes = refl;
         steps = omega (arith, size, counted);
@@ -165,7 +163,7 @@ module _ (r : Begun) (done : List Record) (limits : AreWithinLimits r.settings) 
       omega (arith, size, nothing, counted)
 
   pub record_closes : (entry : Record) → IsShaped r.settings (is_carried r.records) entry → length (begun_steps (done ++ entry ∷ [])) ≤ most_steps
-      → Closes r.settings (reader.Begun r) (texts_of r.settings (lines_of_record entry)) (done ++ entry ∷ [])
+      → Closes r.settings (HasBegun r) (texts_of r.settings (lines_of_record entry)) (done ++ entry ∷ [])
   unfolding IsShaped lines_of_record
   record_closes (item.Begin settings frames members) shaped few = absurd shaped
   record_closes (item.TableOf name status links) shaped few = record {
@@ -195,7 +193,7 @@ module _ (r : Begun) (done : List Record) (limits : AreWithinLimits r.settings) 
 begin_taken : (p : SettingsValue) (frames : ℕ) (members : List (List ℕ)) → AreWithinLimits p → 1 ≤ frames → frames ≤ most_frames p.digits
     → length members ≤ most_members → AreDistinct members → All (IsName p) members
     → texts_taken (Some start) (texts_of p (lines_of_record (item.Begin p frames members)))
-    ≡ Some (reader.Begun (at p [] 0 (Members frames members)))
+    ≡ Some (HasBegun (at p [] 0 (Members frames members)))
 unfolding lines_of_record
 begin_taken p frames members limits from to few distinct names =
     let first : Beginning = record { settings = p; frames = frames } in

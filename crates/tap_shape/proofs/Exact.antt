@@ -17,9 +17,7 @@ use Rattle.tap_line.proofs.Exact.{lines_are_read_back}
 use Rattle.tap_shape.specs.declared.reader.Begun.{Begun}
 use Rattle.tap_shape.specs.declared.reader.Open.{Open}
 use Rattle.tap_shape.specs.declared.reader.Open.TheVariants.{Members, Ready, Links, Pairs, Over}
-use Rattle.tap_shape.specs.declared.reader.Reader.{Reader}
-use Rattle.tap_shape.specs.declared.reader.Reader.TheVariants as reader
-use Rattle.tap_shape.specs.Reader.{begun, closed_with, ended, finished, finished_with, first_line, line_at, line_taken, text_taken}
+use Rattle.tap_shape.specs.Reader.{HasBegun, Reader, Start, begun, closed_with, ended, finished, finished_with, first_line, line_at, line_taken, text_taken}
 use Rattle.tap_shape.specs.Text.{BeginsText, IsNotLog, IsTextOf, first_lines, line_count}
 use Rattle.tap_shape.proofs.Accepted.{text_finishes}
 use Rattle.tap_shape.proofs.Accepts.{start, taken-append, texts_taken}
@@ -34,18 +32,18 @@ use Rattle.tap_shape.proofs.Valid.{IsBegun, IsOpenWith, closed_counted}
 
 -- it has begun, or not yet
 abbrev pub IsReader : Reader → Type 0
-IsReader (reader.Start records) = records ≡ []
-IsReader (reader.Begun r) = AreWithinLimits r.settings × IsBegun r
+IsReader (Start records) = records ≡ []
+IsReader (HasBegun r) = AreWithinLimits r.settings × IsBegun r
 
 -- the texts of the lines that it has taken
 abbrev pub texts_of_reader : Reader → List (List ℕ)
-texts_of_reader (reader.Start records) = []
-texts_of_reader (reader.Begun r) = texts_of r.settings (lines_of_begun r)
+texts_of_reader (Start records) = []
+texts_of_reader (HasBegun r) = texts_of r.settings (lines_of_begun r)
 
 -- they begin the text of some log
 reader_completes : (r : Reader) → IsReader r → BeginsText (fed (texts_of_reader r))
-reader_completes (reader.Start records) valid = nothing_begins
-reader_completes (reader.Begun r) valid = begun_completes r valid.0 valid.1
+reader_completes (Start records) valid = nothing_begins
+reader_completes (HasBegun r) valid = begun_completes r valid.0 valid.1
 
 -- what a text that is taken gives
 record TextTaken (r : Reader) (text : List ℕ) (next : Reader) : Type 0 where
@@ -54,7 +52,7 @@ record TextTaken (r : Reader) (text : List ℕ) (next : Reader) : Type 0 where
 
 -- the first text
 first_text : (text : List ℕ) (next : Reader) (first : Beginning) (r : Begun) → first_line text ≡ Some first → begun [] first ≡ Some r
-    → reader.Begun r ≡ next → TextTaken start text next
+    → HasBegun r ≡ next → TextTaken start text next
 unfolding first_line
 first_text text next first r reads begins same =
     let back = (lines_are_read_back.beginning text first).0 reads in
@@ -62,17 +60,17 @@ first_text text next first r reads begins same =
     let limits : AreWithinLimits r.settings = subst (λ (b : Begun). AreWithinLimits b.settings) taken.is back.1.limits in
     subst (TextTaken start text) same (record {
       valid = (limits, first_kept first r back.1 taken);
-      texts = ap (λ b. texts_of_reader (reader.Begun b)) (sym taken.is) ∙ ap (λ t. t ∷ []) (sym back.0);
+      texts = ap (λ b. texts_of_reader (HasBegun b)) (sym taken.is) ∙ ap (λ t. t ∷ []) (sym back.0);
     })
 
 -- a text after others
-next_text_taken : (r : Begun) (text : List ℕ) (next : Reader) (l : Line) (more : Begun) → IsReader (reader.Begun r) → line_at r text ≡ Some l
-    → line_taken r l ≡ Some more → reader.Begun more ≡ next → TextTaken (reader.Begun r) text next
+next_text_taken : (r : Begun) (text : List ℕ) (next : Reader) (l : Line) (more : Begun) → IsReader (HasBegun r) → line_at r text ≡ Some l
+    → line_taken r l ≡ Some more → HasBegun more ≡ next → TextTaken (HasBegun r) text next
 unfolding line_at
 next_text_taken r text next l more valid reads takes same =
     let back = (lines_are_read_back.any_line r.settings (is_carried r.records) text l valid.0).0 reads in
     let longer = line_more r (is_carried r.records) l more back.1 takes in
-    subst (TextTaken (reader.Begun r) text) same (record {
+    subst (TextTaken (HasBegun r) text) same (record {
       valid = (subst AreWithinLimits (sym longer.settings) valid.0, line_kept r more valid.1 l back.1 takes);
       texts = ap (λ s. texts_of s (lines_of_begun more)) longer.settings ∙ ap (texts_of r.settings) longer.lines
           ∙ map-append (text_of_line r.settings) (lines_of_begun r) (l ∷ [])
@@ -80,13 +78,13 @@ next_text_taken r text next l more valid reads takes same =
     })
 
 text_taken_more : (r : Reader) (text : List ℕ) (next : Reader) → IsReader r → text_taken r text ≡ Some next → TextTaken r text next
-text_taken_more (reader.Start records) text next valid is =
-    let last = option_map-back reader.Begun (option_and_then (begun records) (first_line text)) next is in
+text_taken_more (Start records) text next valid is =
+    let last = option_map-back HasBegun (option_and_then (begun records) (first_line text)) next is in
     let first = and_then-back (begun records) (first_line text) last.0 last.1 in
-    subst (λ l. TextTaken (reader.Start l) text next) (sym valid)
+    subst (λ l. TextTaken (Start l) text next) (sym valid)
     (first_text text next first.0 last.0 first.1 (subst (λ l. begun l first.0 ≡ Some last.0) valid first.2) last.2)
-text_taken_more (reader.Begun r) text next valid is =
-    let last = option_map-back reader.Begun (option_and_then (line_taken r) (line_at r text)) next is in
+text_taken_more (HasBegun r) text next valid is =
+    let last = option_map-back HasBegun (option_and_then (line_taken r) (line_at r text)) next is in
     let first = and_then-back (line_taken r) (line_at r text) last.0 last.1 in
     next_text_taken r text next first.0 last.0 valid first.1 first.2 last.2
 
@@ -209,7 +207,7 @@ finished_text p records log steps Ready valid is = closed_text p records log ste
 finished_text p records log steps (Links name status links left) valid is = closed_text p records log steps (Links name status links left) valid is
 finished_text p records log steps (Pairs name pairs left) valid is = closed_text p records log steps (Pairs name pairs left) valid is
 
-ended_text : (r : Begun) (rest : List ℕ) (log : List Record) → IsBegun r → ended (reader.Begun r) rest ≡ Some log
+ended_text : (r : Begun) (rest : List ℕ) (log : List Record) → IsBegun r → ended (HasBegun r) rest ≡ Some log
     → IsTextOf (fed (texts_of r.settings (lines_of_begun r)) ++ rest) log
 ended_text r rest log valid is =
     elim (cases_Bool (length rest == 0)) [
@@ -225,8 +223,8 @@ ended_text r rest log valid is =
 -- or it is the log of this text
 pub ended_log : (bytes rest : List ℕ) (count : ℕ) (r : Reader) (log : List Record) → Reads bytes rest count r → ended r rest ≡ Some log
     → IsTextOf bytes log
-ended_log bytes rest count (reader.Start records) log reads is = absurd (cc)
-ended_log bytes rest count (reader.Begun r) log reads is =
+ended_log bytes rest count (Start records) log reads is = absurd (cc)
+ended_log bytes rest count (HasBegun r) log reads is =
     subst (λ t. IsTextOf t log) (sym reads.text) (ended_text r rest log reads.valid.1 is)
 
 -- ---- exact

@@ -1,50 +1,64 @@
--- Where the first line feed of a text stands.
-use Rattle.std.proofs.Common.{◌≡◌, ◌==◌, ℕ, ◌+◌, ◌<◌, ◌≤◌, nat_lt, arith, List, ◌∷◌, ◌++◌, length, take, drop, get_or, length-take, Option, None, Some, position, refl, ap, subst, ◌∙◌, inl, inr}
-use Rattle.std.specs.List.{after_first, before_first, position_or_len}
-use Rattle.std.proofs.lemmas.Bool.{cases_Bool, eqb-true, ltb-false, ltb-true}
-use Rattle.std.proofs.lemmas.List.{get_or-take}
-use Rattle.std.proofs.lemmas.List.Sums.{fails_before_first, passes_at_first, split_at_first}
+-- Where the first line feed of a text stands, and how many there are.
+use Rattle.std.proofs.Common.{◌≡◌, ◌==◌, ℕ, ◌+◌, ◌-◌, ◌<◌, ◌≤◌, false, arith, List, ◌∷◌, ◌++◌, length, take, drop, get_or, length-drop, length-take, take-append-drop, cond, Option, None, Some, refl, ap, sym, subst, ◌∙◌, inl, inr}
+use Rattle.std.proofs.lemmas.Bool.{cases_Bool, eqb-true}
+use Rattle.std.proofs.lemmas.List.{drop_more, get_or-take, take_all}
+use Rattle.std.proofs.lemmas.List.Elements.{All-from_get_or}
+use Rattle.std.proofs.lemmas.List.Sums.{sum_by-take-drop}
+use Rattle.memchr.specs.Find.{IsFirstByte, Nowhere, Passes, is_byte}
 use Rattle.tap_line.specs.Laws.{HasNoFeed}
+use Rattle.tap_shape.specs.Text.{line_count}
 
 -- the text is parted at its first line feed
 pub record PartedAt (text : List ℕ) (at : ℕ) : Type 0 where
   pub is : text ≡ take at text ++ 10 ∷ drop (at + 1) text
   pub none : HasNoFeed (take at text)
 
-pub feed_at : (text : List ℕ) (at : ℕ) → position (λ byte. byte == 10) text ≡ Some at → PartedAt text at
-feed_at text at found =
-    elim (cases_Bool (nat_lt (position_or_len (λ byte. byte == 10) text) (length text))) [
-      | inl inside ↦
-          let here : Some (position_or_len (λ byte. byte == 10) text) ≡ Some at = rw inside at found in
-          let same : position_or_len (λ byte. byte == 10) text ≡ at = cc in
-          let within = ltb-true (position_or_len (λ byte. byte == 10) text) (length text) inside in
-          let byte_is : get_or text (position_or_len (λ byte. byte == 10) text) 0 ≡ 10 =
-          eqb-true (get_or text (position_or_len (λ byte. byte == 10) text) 0) 10 (passes_at_first (λ byte. byte == 10) text 0 within) in
-          subst (PartedAt text) same (record {
-            is = split_at_first (λ byte. byte == 10) text 0 within
-                ∙ ap (λ b. before_first (λ byte. byte == 10) text ++ b ∷ after_first (λ byte. byte == 10) text) byte_is;
-            none = λ k d h.
-                let size = length-take (position_or_len (λ byte. byte == 10) text) text in
-                let less : k < position_or_len (λ byte. byte == 10) text = omega (arith, h, size) in
-                ap (λ b. b == 10) (get_or-take (position_or_len (λ byte. byte == 10) text) text k d less)
-                ∙ fails_before_first (λ byte. byte == 10) text k d less;
-          })
-      | inr none ↦ absurd (let other : None ≡ Some at = rw none at found in cc)
-    ]
-
-no_feed : (text : List ℕ) → position (λ byte. byte == 10) text ≡ None → HasNoFeed text
-no_feed text none =
-    elim (cases_Bool (nat_lt (position_or_len (λ byte. byte == 10) text) (length text))) [
-      | inl inside ↦ absurd (let other : Some (position_or_len (λ byte. byte == 10) text) ≡ None = rw inside at none in cc)
-      | inr all ↦
-          let far : length text ≤ position_or_len (λ byte. byte == 10) text = ltb-false (position_or_len (λ byte. byte == 10) text) (length text) all in
-          (λ k d h. fails_before_first (λ byte. byte == 10) text k d (omega (arith, far, h)))
+no_byte : (text : List ℕ) (at k : ℕ) → Nowhere (Passes (is_byte 10) text) 0 at → k < at → (get_or text k 0 == 10) ≡ false
+no_byte text at k nowhere less =
+    elim (cases_Bool (get_or text k 0 == 10)) [
+      | inl here ↦ absurd (nowhere k (omega arith) less here)
+      | inr other ↦ other
     ]
 
 -- none stands there if none is found
-pub no_feed_unless : (text : List ℕ) → ((at : ℕ) → position (λ byte. byte == 10) text ≡ Some at → ⊥) → HasNoFeed text
-no_feed_unless text never = by_place (position (λ byte. byte == 10) text) refl
-  where
-    by_place : (found : Option ℕ) → position (λ byte. byte == 10) text ≡ found → HasNoFeed text
-    by_place None is = no_feed text is
-    by_place (Some at) is = absurd (never at is)
+no_feed : (text : List ℕ) → Nowhere (Passes (is_byte 10) text) 0 (length text) → HasNoFeed text
+no_feed text nowhere =
+    All-from_get_or (λ byte. (byte == 10) ≡ false) text 0 (λ k inside. no_byte text (length text) k nowhere inside)
+
+feed_at : (text : List ℕ) (at : ℕ) → at < length text → Passes (is_byte 10) text at → Nowhere (Passes (is_byte 10) text) 0 at
+    → PartedAt text at
+feed_at text at inside here nowhere =
+    let byte : get_or text at 0 ≡ 10 = eqb-true (get_or text at 0) 10 here in
+    record {
+      is = sym (take-append-drop at text) ∙ ap (λ l. take at text ++ l) (drop_more text at 0 inside)
+          ∙ ap (λ b. take at text ++ b ∷ drop (at + 1) text) byte;
+      none = All-from_get_or (λ b. (b == 10) ≡ false) (take at text) 0 (λ k within.
+          let size = length-take at text in
+          let less : k < at = omega (arith, within, size) in
+          ap (λ b. b == 10) (get_or-take at text k 0 less) ∙ no_byte text at k nowhere less);
+    }
+
+-- what is found is the first one
+pub feed_found : (text : List ℕ) (found : Option ℕ) (at : ℕ) → IsFirstByte (is_byte 10) text found → found ≡ Some at → PartedAt text at
+feed_found text None at first is = absurd (cc)
+feed_found text (Some place) at first is =
+    let same : place ≡ at = cc in
+    subst (PartedAt text) same (feed_at text place first.0.high first.1 first.0.before)
+
+-- if nothing is found, there is none
+pub no_feed_unless : (text : List ℕ) (found : Option ℕ) → IsFirstByte (is_byte 10) text found → ((at : ℕ) → found ≡ Some at → ⊥)
+    → HasNoFeed text
+no_feed_unless text None first never = no_feed text first
+no_feed_unless text (Some at) first never = absurd (never at refl)
+
+-- ---- how many there are
+
+-- those of a first piece and those after it are all
+pub count_split : (rest : List ℕ) (count piece all n : ℕ) → n ≤ length rest → count + line_count rest ≡ all → piece ≡ line_count (take n rest)
+    → count + piece + line_count (take (length rest - n) (drop n rest)) ≡ all
+count_split rest count piece all n few is first =
+    let whole : line_count (take n rest) + line_count (drop n rest) ≡ line_count rest = sum_by-take-drop (λ byte. cond (byte == 10) 1 0) rest n in
+    let size : length (drop n rest) ≡ length rest - n = length-drop n rest in
+    let tail : line_count (take (length rest - n) (drop n rest)) ≡ line_count (drop n rest) =
+    ap line_count (take_all (length rest - n) (drop n rest) (omega (arith, size))) in
+    omega (arith, whole, tail, is, first)

@@ -8,6 +8,7 @@ mod Valid
 mod Kept
 mod Completes
 mod Accepts
+mod Taking
 mod Accepted
 pub mod Exact
 pub mod Unique

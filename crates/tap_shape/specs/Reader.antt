@@ -15,8 +15,15 @@ use Rattle.tap_line.specs.Reading.{begin_of_text, line_of_text}
 use Rattle.tap_shape.specs.declared.reader.Open.{Open}
 use Rattle.tap_shape.specs.declared.reader.Open.TheVariants.{Members, Ready, Links, Pairs, Over}
 use Rattle.tap_shape.specs.declared.reader.Begun.{Begun}
-use Rattle.tap_shape.specs.declared.reader.Reader.{Reader}
-use Rattle.tap_shape.specs.declared.reader.Reader.TheVariants as reader
+
+-- a log that is read: it hasn't begun, or it has
+pub data Reader : Type 0 where
+  Start : List Record → Reader
+  HasBegun : Begun → Reader
+
+-- what there is if it was taken
+abbrev pub if_taken : {A : Type 0} → Bool → A → Option A
+if_taken taken next = if taken then Some next else None
 
 -- ---- where a log may end
 
@@ -49,8 +56,8 @@ finished r = finished_with r.settings r.records r.pending
 
 -- the log, if nothing is left of its text and it may end here
 abbrev pub ended : Reader → List ℕ → Option (List Record)
-ended (reader.Start records) rest = None
-ended (reader.Begun r) rest = if length rest == 0 then finished r else None
+ended (Start records) rest = None
+ended (HasBegun r) rest = if length rest == 0 then finished r else None
 
 -- ---- lines
 
@@ -139,5 +146,5 @@ line_at r text = line_of_text r.settings (is_carried r.records) text
 
 -- the reader after the line that a text is, if it takes it
 abbrev pub text_taken : Reader → List ℕ → Option Reader
-text_taken (reader.Start records) text = option_map reader.Begun (option_and_then (begun records) (first_line text))
-text_taken (reader.Begun r) text = option_map reader.Begun (option_and_then (line_taken r) (line_at r text))
+text_taken (Start records) text = option_map HasBegun (option_and_then (begun records) (first_line text))
+text_taken (HasBegun r) text = option_map HasBegun (option_and_then (line_taken r) (line_at r text))

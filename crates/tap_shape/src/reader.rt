@@ -1,13 +1,14 @@
-ghost use Rattle.std.specs.Prelude.{◌≡◌, ◌==◌, ◌+◌, ◌&&◌, nat_lt, Bool, [], ℕ, IfOk, option_map};
+ghost use Rattle.std.specs.Prelude.{◌≡◌, ◌==◌, ◌+◌, ◌&&◌, nat_lt, Bool, ℕ, IfOk};
 ghost use Rattle.tap_name.specs.Names.{has_name};
 ghost use Rattle.tap_scenario.specs.Scenario.{most_frames};
-ghost use Rattle.tap_shape.specs.declared.reader.Open.TheVariants.{Links, Pairs};
-ghost use Rattle.tap_shape.specs.Reader.{begun, closed, finished, line_taken, may_send, one_step_more, steps_with, with_beginning, with_counted, with_link, with_member, with_open, with_pair, with_whole};
+ghost use Rattle.tap_shape.specs.declared.reader.Open.TheVariants.{Ready};
+ghost use Rattle.tap_shape.specs.Reader.{after, begun, finished, if_taken, line_taken, may_send, one_step_more, steps_with, with_beginning, with_counted, with_link, with_member, with_open, with_pair, with_whole};
 
 use crate::records::Records;
 use std::alloc::Global;
+use std::mem;
 use tap_line::{Beginning, Line};
-use tap_log::{LinkLine, Log, NoMemory, NodeWord, Pair, Record};
+use tap_log::{LinkLine, NoMemory, NodeWord, Pair, Record};
 use tap_name::{List, Name, Settings};
 
 // The most members of a log.
@@ -52,15 +53,6 @@ pub(crate) struct Begun {
     pub(crate) pending: Open,
 }
 
-// A log that is read.
-#[derive(Drop)]
-pub(crate) enum Reader {
-    // It hasn't begun: here is room for its records.
-    Start(Records),
-    // It has begun.
-    Begun(Begun),
-}
-
 // The name is one of these.
 fn has(names: &[Name], name: &Name) -> bool
     ensures { result ≡ has_name names.now name.now }
@@ -103,35 +95,15 @@ fn steps_with(steps: u32, entry: &Record) -> Option<u32>
     }
 }
 
-// The records with the beginning, if there are members.
-fn with_beginning(
-    mut records: Records,
-    settings: Settings,
-    frames: u32,
-    members: List<Name>,
-) -> Result<Option<Records>, NoMemory>
-    ensures { IfOk result (λ found. found ≡ with_beginning settings records frames members) }
-{
-    if members.is_empty() {
-        return Ok(None);
-    }
-    records.push(Record::Begin {
-        settings,
-        frames,
-        members,
-    })?;
-    Ok(Some(records))
-}
-
-// The records with one more, if none of its lines is left.
-fn with_counted(mut records: Records, entry: Record, left: u64) -> Result<Option<Records>, NoMemory>
-    ensures { IfOk result (λ found. found ≡ with_counted records entry left) }
+// Adds a record of which so many lines are left, if none is.
+fn push_counted(records: &mut Records, entry: Record, left: u64) -> Result<bool, NoMemory>
+    ensures { IfOk result (λ pushed. if_taken pushed records.new ≡ with_counted records.old entry left) }
 {
     if left > 0 {
-        return Ok(None);
+        return Ok(false);
     }
     records.push(entry)?;
-    Ok(Some(records))
+    Ok(true)
 }
 
 impl Begun {
@@ -154,28 +126,38 @@ impl Begun {
         })
     }
 
-    // The records, if what is open may end here.
-    fn close(self) -> Result<Option<Records>, NoMemory>
-        ensures { IfOk result (λ found. found ≡ closed self) }
+    // Adds the beginning, if there are members.
+    fn push_beginning(&mut self, frames: u32, members: List<Name>) -> Result<bool, NoMemory>
+        ensures records { IfOk result (λ pushed. if_taken pushed self.new.records ≡ with_beginning self.old.settings self.old.records frames members) }
+        ensures rest { self.new ≡ after self.old self.old.steps self.old.pending self.new.records }
     {
-        let Begun {
+        if members.is_empty() {
+            return Ok(false);
+        }
+        let settings = self.settings;
+        self.records.push(Record::Begin {
             settings,
-            records,
-            pending,
-            ..
-        } = self;
-        match pending {
-            Open::Members { frames, members } => {
-                with_beginning(records, settings, frames, members)
-            }
-            Open::Ready => Ok(Some(records)),
+            frames,
+            members,
+        })?;
+        Ok(true)
+    }
+
+    // Ends what is open, if it may end here: its record, if it has one, is added, and a record may begin.
+    #[inline(never)]
+    fn close_open(&mut self) -> Result<bool, NoMemory>
+        ensures { IfOk result (λ ended. if_taken ended self.new ≡ with_open self.old Ready) }
+    {
+        match mem::replace(&mut self.pending, Open::Ready) {
+            Open::Members { frames, members } => self.push_beginning(frames, members),
+            Open::Ready => Ok(true),
             Open::Links {
                 name,
                 status,
                 links,
                 left,
-            } => with_counted(
-                records,
+            } => push_counted(
+                &mut self.records,
                 Record::TableOf {
                     name,
                     status,
@@ -183,174 +165,132 @@ impl Begun {
                 },
                 left,
             ),
-            Open::Pairs { name, pairs, left } => {
-                with_counted(records, Record::PointersOf { name, pairs }, left)
-            }
-            Open::Over => Ok(None),
+            Open::Pairs { name, pairs, left } => push_counted(
+                &mut self.records,
+                Record::PointersOf { name, pairs },
+                left,
+            ),
+            Open::Over => Ok(false),
+        }
+    }
+
+    // The same; nearly always nothing is open.
+    #[inline(always)]
+    fn close(&mut self) -> Result<bool, NoMemory>
+        ensures { IfOk result (λ ended. if_taken ended self.new ≡ with_open self.old Ready) }
+    {
+        match self.pending {
+            Open::Ready => Ok(true),
+            _ => self.close_open(),
         }
     }
 
     // The records, if the log may end here.
-    pub(crate) fn finish(self) -> Result<Option<Records>, NoMemory>
+    pub(crate) fn finish(mut self) -> Result<Option<Records>, NoMemory>
         ensures { IfOk result (λ found. found ≡ finished self) }
     {
         if let Open::Over = self.pending {
             return Ok(Some(self.records));
         }
-        self.close()
+        if self.close()? {
+            Ok(Some(self.records))
+        } else {
+            Ok(None)
+        }
     }
 
     // One more member.
-    fn member(self, name: Name) -> Result<Option<Begun>, NoMemory>
-        ensures { IfOk result (λ next. next ≡ with_member self name) }
+    #[inline(never)]
+    fn member(&mut self, name: Name) -> Result<bool, NoMemory>
+        ensures { IfOk result (λ taken. if_taken taken self.new ≡ with_member self.old name) }
     {
-        let Begun {
-            settings,
-            records,
-            steps,
-            pending,
-        } = self;
-        match pending {
-            Open::Members {
-                frames,
-                mut members,
-            } => {
+        match &mut self.pending {
+            Open::Members { members, .. } => {
                 if members.len() >= MOST_MEMBERS {
-                    return Ok(None);
+                    return Ok(false);
                 }
                 if has(members.as_slice(), &name) {
-                    return Ok(None);
+                    return Ok(false);
                 }
                 members.push(name)?;
-                Ok(Some(Begun {
-                    settings,
-                    records,
-                    steps,
-                    pending: Open::Members { frames, members },
-                }))
+                Ok(true)
             }
-            _ => Ok(None),
+            _ => Ok(false),
         }
     }
 
     // One more link.
-    fn link(self, link: LinkLine) -> Result<Option<Begun>, NoMemory>
-        ensures { IfOk result (λ next. next ≡ with_link self link) }
+    #[inline(never)]
+    fn link(&mut self, link: LinkLine) -> Result<bool, NoMemory>
+        ensures { IfOk result (λ taken. if_taken taken self.new ≡ with_link self.old link) }
     {
-        let Begun {
-            settings,
-            records,
-            steps,
-            pending,
-        } = self;
-        match pending {
-            Open::Links {
-                name,
-                status,
-                mut links,
-                left,
-            } => {
-                if left == 0 {
-                    return Ok(None);
+        match &mut self.pending {
+            Open::Links { links, left, .. } => {
+                if *left == 0 {
+                    return Ok(false);
                 }
                 links.push(link)?;
-                Ok(Some(Begun {
-                    settings,
-                    records,
-                    steps,
-                    pending: Open::Links {
-                        name,
-                        status,
-                        links,
-                        left: left - 1,
-                    },
-                }))
+                *left -= 1;
+                Ok(true)
             }
-            _ => Ok(None),
+            _ => Ok(false),
         }
     }
 
     // One more pair.
-    fn pair(self, pair: Pair) -> Result<Option<Begun>, NoMemory>
-        ensures { IfOk result (λ next. next ≡ with_pair self pair) }
+    #[inline(never)]
+    fn pair(&mut self, pair: Pair) -> Result<bool, NoMemory>
+        ensures { IfOk result (λ taken. if_taken taken self.new ≡ with_pair self.old pair) }
     {
-        let Begun {
-            settings,
-            records,
-            steps,
-            pending,
-        } = self;
-        match pending {
-            Open::Pairs {
-                name,
-                mut pairs,
-                left,
-            } => {
-                if left == 0 {
-                    return Ok(None);
+        match &mut self.pending {
+            Open::Pairs { pairs, left, .. } => {
+                if *left == 0 {
+                    return Ok(false);
                 }
                 pairs.push(pair)?;
-                Ok(Some(Begun {
-                    settings,
-                    records,
-                    steps,
-                    pending: Open::Pairs {
-                        name,
-                        pairs,
-                        left: left - 1,
-                    },
-                }))
+                *left -= 1;
+                Ok(true)
             }
-            _ => Ok(None),
+            _ => Ok(false),
         }
     }
 
     // What is open ends, and this begins.
-    fn open(self, next: Open) -> Result<Option<Begun>, NoMemory>
-        ensures { IfOk result (λ begun. begun ≡ with_open self next) }
+    #[inline(never)]
+    fn open(&mut self, next: Open) -> Result<bool, NoMemory>
+        ensures { IfOk result (λ taken. if_taken taken self.new ≡ with_open self.old next) }
     {
-        let settings = self.settings;
-        let steps = self.steps;
-        match self.close()? {
-            Some(records) => Ok(Some(Begun {
-                settings,
-                records,
-                steps,
-                pending: next,
-            })),
-            None => Ok(None),
+        if !self.close()? {
+            return Ok(false);
         }
+        self.pending = next;
+        Ok(true)
     }
 
     // A record of one line.
-    fn whole(self, entry: Record) -> Result<Option<Begun>, NoMemory>
-        ensures { IfOk result (λ next. next ≡ with_whole self entry) }
+    #[inline(never)]
+    pub(crate) fn whole(&mut self, entry: Record) -> Result<bool, NoMemory>
+        ensures { IfOk result (λ taken. if_taken taken self.new ≡ with_whole self.old entry) }
     {
-        let settings = self.settings;
         let Some(steps) = steps_with(self.steps, &entry) else {
-            return Ok(None);
+            return Ok(false);
         };
-        match self.close()? {
-            Some(mut records) => {
-                records.push(entry)?;
-                Ok(Some(Begun {
-                    settings,
-                    records,
-                    steps,
-                    pending: Open::Ready,
-                }))
-            }
-            None => Ok(None),
+        if !self.close()? {
+            return Ok(false);
         }
+        self.records.push(entry)?;
+        self.steps = steps;
+        Ok(true)
     }
 
-    // Takes a line, if one of a log's text may stand here.
-    pub(crate) fn take(self, alloc: Global, line: Line) -> Result<Option<Begun>, NoMemory>
-        ensures { IfOk result (λ next. next ≡ line_taken self line) }
+    // Takes a line, if one of a log's text may stand here. After a line that may not, or want of memory, the log is of no use.
+    #[inline(never)]
+    pub(crate) fn take(&mut self, alloc: Global, line: Line) -> Result<bool, NoMemory>
+        ensures { IfOk result (λ taken. if_taken taken self.new ≡ line_taken self.old line) }
     {
         match line {
             Line::Whole(entry) => self.whole(entry),
-            Line::Begin(_) => Ok(None),
+            Line::Begin(_) => Ok(false),
             Line::Member { name } => self.member(name),
             Line::Table {
                 name,

@@ -1,29 +1,52 @@
-ghost use Rattle.std.specs.Prelude.{◌≡◌, ◌==◌, ◌+◌, ◌-◌, ◌^◌, ◌<◌, [], ℕ, length, take, drop, position, IfOk, Err};
+ghost use Rattle.std.specs.Prelude.{◌≡◌, ◌==◌, ◌+◌, ◌-◌, ◌^◌, ◌<◌, ◌≤◌, [], ℕ, length, take, drop, option_map, IfOk, IfSome, Err};
+ghost use Rattle.memchr.specs.Find.{IsFirstByte, is_byte};
 ghost use Rattle.tap_shape.specs.declared.fault.LogFault.TheVariants.{NotLog};
-ghost use Rattle.tap_shape.specs.declared.reader.Reader.TheVariants as reader;
-ghost use Rattle.tap_shape.specs.declared.reader.Reader.TheVariants.{Start};
-ghost use Rattle.tap_shape.specs.Reader.{ended, first_line, line_at, text_taken};
+ghost use Rattle.tap_shape.specs.Reader.{HasBegun, Start, ended, first_line, if_taken, line_at, text_taken};
 ghost use Rattle.tap_shape.specs.Text.{IsNotLog, IsTextOf, line_count};
 
 use crate::fault::LogFault;
-use crate::reader::{Begun, Reader};
+use crate::reader::Begun;
 use crate::records::Records;
+use memchr::memchr;
 use std::alloc::Global;
 use tap_line::{Beginning, Line, LineFault, read_begin, read_line};
 use tap_log::{Log, NoMemory};
+
+// So many bytes are looked at at once.
+const PIECE: usize = 192;
+
+// How many lines there are in a piece, each with its line feed. So few are counted in a byte, and many bytes are looked at at once.
+#[inline(always)]
+fn piece_line_count(piece: &[u8]) -> u8
+    requires { length piece.now ≤ PIECE }
+    ensures { result ≡ line_count piece.now }
+{
+    let mut count = 0;
+    for at in 0..piece.len() {
+        count += u8::from(piece[at] == b'\n');
+    }
+    count
+}
 
 // How many lines there are, each with its line feed.
 fn line_count(bytes: &[u8]) -> usize
     ensures { result ≡ line_count bytes.now }
 {
-    bytes.iter().filter(|byte| **byte == b'\n').count()
+    let mut count = 0;
+    let mut rest = bytes;
+    while rest.len() > PIECE {
+        count += piece_line_count(&rest[..PIECE]) as usize;
+        rest = &rest[PIECE..];
+    }
+    count + piece_line_count(rest) as usize
 }
 
 // The place of the first line feed.
 fn first_feed(text: &[u8]) -> Option<usize>
-    ensures { result ≡ position (λ byte. byte == 10) text.now }
+    ensures first { IsFirstByte (is_byte 10) text.now result }
+    ensures inside { IfSome result (λ at. at < length text.now) }
 {
-    text.iter().position(|byte| *byte == b'\n')
+    memchr(b'\n', text)
 }
 
 // What stands before this place.
@@ -50,69 +73,37 @@ fn first_line(text: &[u8]) -> Option<Beginning>
     read_begin(text)
 }
 
-// The line that the text is, of this log.
+// The log that the line begins which the text is.
+#[inline(never)]
+fn begin(alloc: Global, records: Records, text: &[u8]) -> Option<Begun>
+    ensures { option_map HasBegun result ≡ text_taken (Start records) text.now }
+{
+    let first = first_line(text)?;
+    Begun::new(alloc, records, first)
+}
+
+// Takes the line that the text is, if it may stand here.
+#[inline(always)]
 #[tactic(auto, unfolding(crate::specs::Reader::line_at))]
-fn line_at(alloc: Global, begun: &Begun, text: &[u8]) -> Result<Option<Line>, NoMemory>
-    ensures { IfOk result (λ line. line ≡ line_at begun.now text.now) }
+fn go_on(alloc: Global, begun: &mut Begun, text: &[u8]) -> Result<bool, NoMemory>
+    ensures { IfOk result (λ taken. option_map HasBegun (if_taken taken begun.new) ≡ text_taken (HasBegun begun.old) text.now) }
 {
     match read_line(alloc, &begun.settings, begun.records.is_carried(), text) {
-        Ok(line) => Ok(Some(line)),
-        Err(LineFault::NoLine) => Ok(None),
+        Ok(Line::Whole(entry)) => begun.whole(entry),
+        Ok(line) => begun.take(alloc, line),
+        Err(LineFault::NoLine) => Ok(false),
         Err(LineFault::NoMemory) => Err(NoMemory),
     }
 }
 
-// The log that the line begins which the text is.
-fn begin(alloc: Global, records: Records, text: &[u8]) -> Option<Reader>
-    ensures { result ≡ text_taken (Start records) text.now }
+// The records, if nothing is left of the text and the log may end here.
+fn end(begun: Begun, rest: &[u8]) -> Result<Option<Records>, NoMemory>
+    ensures { IfOk result (λ found. found ≡ ended (HasBegun begun) rest.now) }
 {
-    let first = first_line(text)?;
-    let begun = Begun::new(alloc, records, first)?;
-    Some(Reader::Begun(begun))
-}
-
-// The log with the line more that the text is, if it may stand here.
-fn go_on(alloc: Global, begun: Begun, text: &[u8]) -> Result<Option<Reader>, NoMemory>
-    ensures { IfOk result (λ next. next ≡ text_taken (reader.Begun begun) text.now) }
-{
-    match line_at(alloc, &begun, text)? {
-        Some(line) => Ok(begun.take(alloc, line)?.map(Reader::Begun)),
-        None => Ok(None),
-    }
-}
-
-impl Reader {
-    // Nothing is read yet, and there is room for so many records.
-    fn with_room(alloc: Global, room: usize) -> Result<Reader, NoMemory>
-        ensures { IfOk result (λ reader. reader ≡ Start []) }
-    {
-        Ok(Reader::Start(Records::with_room(alloc, room)?))
-    }
-
-    // Takes the line that the text is, if it may stand here.
-    fn take(self, alloc: Global, text: &[u8]) -> Result<Option<Reader>, NoMemory>
-        ensures { IfOk result (λ next. next ≡ text_taken self text.now) }
-    {
-        match self {
-            Reader::Start(records) => Ok(begin(alloc, records, text)),
-            Reader::Begun(begun) => go_on(alloc, begun, text),
-        }
-    }
-
-    // The records, if nothing is left of the text and the log may end here.
-    fn end(self, rest: &[u8]) -> Result<Option<Records>, NoMemory>
-        ensures { IfOk result (λ found. found ≡ ended self rest.now) }
-    {
-        match self {
-            Reader::Start(_) => Ok(None),
-            Reader::Begun(begun) => {
-                if rest.is_empty() {
-                    begun.finish()
-                } else {
-                    Ok(None)
-                }
-            }
-        }
+    if rest.is_empty() {
+        begun.finish()
+    } else {
+        Ok(None)
     }
 }
 
@@ -127,22 +118,23 @@ pub fn read_log(alloc: Global, bytes: &[u8]) -> Result<Log, LogFault>
     ensures log { IfOk result (λ log. IsTextOf bytes.now log.records) }
     ensures not_log { (k : ℕ) → result ≡ Err (NotLog k) → IsNotLog bytes.now k }
 {
-    let mut reader = Reader::with_room(alloc, line_count(bytes))?;
-    let mut rest = bytes;
-    let mut lines: u32 = 0;
+    let records = Records::with_room(alloc, line_count(bytes))?;
+    let Some(at) = first_feed(bytes) else {
+        return Err(LogFault::NotLog(1));
+    };
+    let Some(mut begun) = begin(alloc, records, before(bytes, at)) else {
+        return Err(LogFault::NotLog(1));
+    };
+    let mut rest = after(bytes, at);
+    let mut lines: u32 = 1;
     while let Some(at) = first_feed(rest) {
-        match reader.take(alloc, before(rest, at))? {
-            Some(next) => {
-                reader = next;
-            }
-            None => {
-                return Err(LogFault::NotLog(lines + 1));
-            }
+        if !go_on(alloc, &mut begun, before(rest, at))? {
+            return Err(LogFault::NotLog(lines + 1));
         }
         rest = after(rest, at);
         lines += 1;
     }
-    match reader.end(rest)? {
+    match end(begun, rest)? {
         Some(records) => Ok(records.into_log()),
         None => Err(LogFault::NotLog(lines + 1)),
     }

@@ -31,6 +31,7 @@ impl Records {
     }
 
     // Adds a record at the end. A refused push changes nothing.
+    #[inline(always)]
     pub(crate) fn push(&mut self, item: Record) -> Result<(), NoMemory>
         ensures ok { OnOk result (self.new ≡ self.old ++ item ∷ []) }
         ensures err { OnErr result (self.new ≡ self.old) }
@@ -39,6 +40,7 @@ impl Records {
     }
 
     // Whether packets carry the frames of the run.
+    #[inline(always)]
     pub(crate) fn is_carried(&self) -> bool
         ensures { result ≡ is_carried self.now }
     {
