@@ -1,5 +1,5 @@
 -- A frame and a start at a node: what the call answers, and that the node stays sound.
-use Rattle.std.proofs.Common.{◌≡◌, ℕ, true, false, if◌then◌else◌, List, [], Result, Err, refl, sym, subst}
+use Rattle.std.proofs.Common.{◌≡◌, ℕ, ◌||◌, true, false, if◌then◌else◌, List, [], Result, Err, IsTrue, refl, sym, ap, subst, ◌∙◌}
 use Rattle.std.specs.Prelude.{IfOk}
 use Rattle.std.proofs.lemmas.Result.{IfOk-weaker}
 use Rattle.tap_name.specs.Settings.{SettingsValue}
@@ -14,12 +14,12 @@ use Rattle.tap_rule.specs.KeptNode.{KeepsNode}
 use Rattle.tap_rule.proofs.KeptNode.{kept_law, start_kept_law}
 use Rattle.tap_node_common.specs.declared.memory.NoMemory.{NoMemory}
 use Rattle.tap_node_common.specs.declared.news.News.{News}
-use Rattle.tap_node_common.specs.SoundNode.{IsSoundNode}
+use Rattle.tap_node_common.specs.SoundNode.{IsSoundNode, MayTake, has_numbers_left}
 use Rattle.tap_node.specs.declared.fault.NodeFault.{NodeFault}
 use Rattle.tap_node.specs.declared.fault.NodeFault.TheVariants as fault
 use Rattle.tap_node.specs.declared.state.State.{State}
 use Rattle.tap_node.specs.declared.turn.Turn.{Turn}
-use Rattle.tap_node.specs.Node.{NodeValue}
+use Rattle.tap_node.specs.Node.{NodeValue, has_room_left}
 use Rattle.tap_node.specs.Outcome.{AnswersAs, acted_as, at_frame, refused_by, start_outcome}
 use Rattle.tap_node.specs.SeenNode.{FollowsFrom, IsHeldBy, IsKeptFor, StartsFrom, node_value, state_held}
 use Rattle.tap_node.proofs.Answering.{HasActed, IsTurned, refuses_as, step_answers, step_keeps}
@@ -42,6 +42,21 @@ pub strange_refused : (node : NodeValue) (frame : Frame) → is_own_name node.st
     → AnswersAs (at_frame node frame) node (Err fault.Strange) node
 strange_refused node frame own strange =
     refuses_as (at_frame node frame) node fault.Strange (λ wrong. cc) (rw (own, strange) refl)
+
+-- a frame that is read, and isn't strange to the node, may be taken
+pub may_take : (p : SettingsValue) (name : List ℕ) (state : State) → IsKeptFor p name (node_value p name state) → (node : NodeValue)
+    → node_value p name state ≡ node → (frame : Frame) → node.ended ≡ false → IsTrue (has_room_left node)
+    → IsFrame (settings_of node.state) frame → is_strange node.state frame ≡ false → MayTake (state_held p name state) frame
+may_take p name state kept node is frame runs room is_frame usual =
+    let steps : (node_value p name state).ended ≡ false = ap (λ (n : NodeValue). n.ended) is ∙ runs in
+    let left : (node.ended || has_numbers_left node.state) ≡ true = room in
+    let numbers : has_numbers_left node.state ≡ true = rw runs at left in
+    record {
+      sound = kept.sound steps;
+      room = ap (λ (n : NodeValue). has_numbers_left n.state) is ∙ numbers;
+      is_frame = subst (λ (n : NodeValue). IsFrame (settings_of n.state) frame) (sym is) is_frame;
+      taken = ap (λ (n : NodeValue). is_strange n.state frame) is ∙ usual;
+    }
 
 module _ (p : SettingsValue) (name : List ℕ) (before : State) (kept : IsKeptFor p name (node_value p name before))
     (runs : (node_value p name before).ended ≡ false) where

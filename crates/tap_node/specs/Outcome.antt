@@ -1,7 +1,7 @@
 -- What the calls of a node answer, and how they leave it.
 --
 -- Rule: docs/PROTOCOL.md, "Steps of a node" and "Refused frames".
-use Rattle.std.specs.Prelude.{◌≡◌, ◌≢◌, ℕ, Bool, true, false, not, ◌&&◌, ◌||◌, if◌then◌else◌, List, Result, Ok, Err, IsOk, IsOkAnd, IsTrue}
+use Rattle.std.specs.Prelude.{◌≡◌, ◌≢◌, ℕ, Bool, true, false, not, ◌&&◌, ◌||◌, if◌then◌else◌, List, [], Result, Ok, Err, IsOk, IsOkAnd, IsTrue}
 use Rattle.tap_wire.specs.declared.fault.WireFault.{WireFault}
 use Rattle.tap_wire.specs.declared.fault.WireFault.TheVariants as wire
 use Rattle.tap_wire.specs.declared.frame.Frame.{Frame}
@@ -14,6 +14,8 @@ use Rattle.tap_rule.specs.Event.Event.{Starts, Takes}
 use Rattle.tap_rule.specs.Strange.{is_own_name, is_strange}
 use Rattle.tap_rule.specs.Act.{act}
 use Rattle.tap_node_common.specs.Spellings.{spelled}
+use Rattle.tap_node_common.specs.declared.memory.NoMemory.{NoMemory as OutOfMemory}
+use Rattle.tap_node_common.specs.declared.news.News.TheVariants.{Nothing}
 use Rattle.tap_node.specs.declared.fault.NodeFault.{NodeFault}
 use Rattle.tap_node.specs.declared.fault.NodeFault.TheVariants.{Wire, NotMine, Strange, NoMemory, Ended}
 use Rattle.tap_node.specs.declared.turn.Turn.{Turn}
@@ -32,6 +34,15 @@ refused_by node fault = record { answer = Err fault; node = node }
 -- what a step gives: its frames as bytes, and its news
 abbrev pub turn_made : NodeState → Acted → Turn
 turn_made node acted = record { sent = spelled (settings_of node) acted.sent; news = news_seen acted.news }
+
+-- a turn without frames and without news
+abbrev pub empty_turn : Turn
+empty_turn = record { sent = []; news = Nothing }
+
+-- what a call has answered to which an empty turn was lent, by what that turn is afterwards: the turn, or that memory was refused
+abbrev pub answer_lent : Result (Unit {0}) OutOfMemory → Turn → Result Turn NodeFault
+answer_lent (Ok done) turn = Ok turn
+answer_lent (Err refused) turn = Err NoMemory
 
 -- the node has acted
 abbrev pub acted_as : NodeState → Acted → Outcome

@@ -3,7 +3,7 @@ ghost use Rattle.std.specs.Option.{option_copied};
 ghost use Rattle.tap_name.specs.Name.{IsName};
 ghost use Rattle.tap_session.specs.Session.{most_sessions};
 ghost use Rattle.tap_rule.specs.Node.{joiner, member_at_rest, name_of, settings_of};
-ghost use Rattle.tap_rule.specs.Strange.{is_strange};
+ghost use Rattle.tap_rule.specs.Strange.{is_own_name, is_strange};
 ghost use Rattle.tap_wire.specs.Spelling.{IsFrame};
 ghost use Rattle.tap_node_common.specs.SoundNode.{join_sessions_limit, pairs_limit, stamp_limit};
 ghost use Rattle.tap_node.specs.Node.{has_room_left, node_status, pointers_lent, running, table_lent};
@@ -18,7 +18,7 @@ use tap_core_node::CoreNode;
 use tap_joining_node::JoiningNode;
 use tap_multicast::Covers;
 use tap_name::{List, Name, Settings};
-use tap_node_common::{FrameList, News, NoMemory, Sender, is_strange, is_strange_to_ended};
+use tap_node_common::{NoMemory, Sender, is_strange, is_strange_to_ended};
 use tap_pointer::Pointers;
 use tap_session::Sessions;
 use tap_table::Table;
@@ -54,7 +54,7 @@ impl Model for Node {
 
 impl Node {
     ghost use Rattle.tap_name.specs.Distinct.{AreDistinct};
-    ghost use Rattle.tap_node.specs.Outcome.{AnswersAs, MayWant, at_frame, is_taken, take_outcome};
+    ghost use Rattle.tap_node.specs.Outcome.{AnswersAs, MayWant, answer_lent, at_frame, empty_turn, is_taken, take_outcome};
     ghost use Rattle.tap_node_common.specs.Sender.{node_sender};
 
     /// One of the members with which an overlay begins: a core node, with its ties at rest.
@@ -225,15 +225,35 @@ impl Node {
         if self.is_strange(frame) {
             return Err(NodeFault::Strange);
         }
-        let mut turn = Turn {
-            sent: FrameList::new(self.alloc),
-            news: News::Nothing,
-        };
-        match self.state.take(self.alloc, &self.sender, &mut turn, frame) {
+        let mut turn = Turn::empty(self.alloc);
+        match self.take_read(&mut turn, frame) {
             Ok(()) => Ok(turn),
+            Err(refused) => Err(NodeFault::from(refused)),
+        }
+    }
+
+    /// Takes a frame that was read, is its own and isn't strange to it, as `take` does: an empty turn is lent, which then has the
+    /// frames that are sent, and the news.
+    ///
+    /// `NoMemory` is its one refusal, and ends the node; what the turn then has isn't said. The node takes steps, and there is room
+    /// for one.
+    ///
+    /// Rule: docs/PROTOCOL.md, "Steps of a node".
+    #[inline(always)]
+    pub fn take_read(&mut self, turn: &mut Turn, frame: &Frame) -> Result<(), NoMemory>
+        requires room { IsTrue (has_room_left self.old) }
+        requires runs { self.old.ended ≡ false }
+        requires frame { IsFrame (settings_of self.old.state) frame.now }
+        requires own { is_own_name self.old.state frame.now.to ≡ true }
+        requires fits { is_strange self.old.state frame.now ≡ false }
+        requires empty { turn.old ≡ empty_turn }
+        ensures { AnswersAs (at_frame self.old frame.now) self.old (answer_lent result turn.new) self.new }
+    {
+        match self.state.take(self.alloc, &self.sender, turn, frame) {
+            Ok(()) => Ok(()),
             Err(refused) => {
                 self.state = State::ended(self.alloc);
-                Err(NodeFault::from(refused))
+                Err(refused)
             }
         }
     }
