@@ -1,4 +1,5 @@
 mod AtRest
+mod Delivered
 mod Found
 mod Joined
 mod Nodes

@@ -1,17 +1,18 @@
-ghost use Rattle.std.specs.Prelude.{◌≡◌, ◌==◌, ◌≤◌, ℕ, List, None, Err, length, All, IfOk, IfSome, OnErr};
+ghost use Rattle.std.specs.Prelude.{◌≡◌, ◌==◌, ◌≤◌, ℕ, List, None, Err, length, All, IfOk, IfSome, IsOkAnd, OnErr};
 ghost use Rattle.std.specs.List.Sorted.{IsSorted, IsStrictlySortedBy};
 ghost use Rattle.std.specs.Map.{keys_of};
 ghost use Rattle.std.specs.Option.{ForSome, option_copied};
 ghost use Rattle.tap_name.specs.Distinct.{AreDistinct};
 ghost use Rattle.tap_name.specs.Name.{IsName};
 ghost use Rattle.tap_name.specs.Order.{name_cmp};
+ghost use Rattle.tap_wire.specs.Reading.{frame_of};
 ghost use Rattle.tap_overlay.specs.Overlay.{is_core_node_status, member_at, node_among};
-ghost use Rattle.tap_node.specs.Outcome.{MayWant, start_outcome, take_outcome};
+ghost use Rattle.tap_node.specs.Outcome.{MayWant, empty_turn, start_outcome, take_outcome};
 
 use crate::fault::OverlayFault;
 use crate::memory::only_memory;
 use crate::start::Start;
-use crate::step::{start_at, take_at};
+use crate::step::{deliver_at, start_at, take_at};
 use indexmap::IndexMap;
 use std::alloc::Global;
 use std::marker::Model;
@@ -19,6 +20,7 @@ use tap_name::{List, Name, Settings};
 use tap_node::{NoMemory, Node, NodeFault, NodeStatus, Turn};
 use tap_surrogate::Tables;
 use tap_table::Table;
+use tap_wire::decode;
 
 /// All nodes of a run, each under its name: the members with which it begins, at rest, and those that have joined since. A node
 /// that is gone, has ceased or has ended stays.
@@ -48,7 +50,7 @@ impl Model for Overlay {
 impl Overlay {
     ghost use Rattle.tap_overlay.specs.Overlay.{HasNameAndSettings, IsAtRest, node_at};
     ghost use Rattle.tap_overlay.specs.Start.{MayStart, rule_start};
-    ghost use Rattle.tap_overlay.specs.Step.{HasJoined, StepsAt};
+    ghost use Rattle.tap_overlay.specs.Step.{HasDelivered, HasFailed, HasJoined, MayDeliver, StepsAt};
 
     /// The overlay of these members at rest, and of nobody else. They are distinct names of the settings, 256 at most.
     ///
@@ -128,6 +130,29 @@ impl Overlay {
         ensures memory { result ≡ Err (OverlayFault.Node NodeFault.NoMemory) → ForSome (node_at self.old name.now) (λ node. MayWant node bytes.now) }
     {
         take_at(&mut self.nodes, name, bytes)
+    }
+
+    /// A frame is taken by the node to which it goes (`Node::take_read`), whose name is the answer: an empty turn is lent, which then
+    /// has the frames that are sent, and the news.
+    ///
+    /// The bytes are a frame. Its receiver is there, takes steps and has room for one, and the frame isn't strange to it. Every other
+    /// node is as it was.
+    ///
+    /// `NoMemory` is the one refusal. Either it comes as the frame is read, and nothing has changed, or the receiver has ended, and stays.
+    #[inline(always)]
+    pub fn deliver(&mut self, turn: &mut Turn, bytes: &[u8]) -> Result<Name, NoMemory>
+        requires may { IsOkAnd (frame_of self.old.settings bytes.now) (MayDeliver self.old.nodes) }
+        requires empty { turn.old ≡ empty_turn }
+        ensures delivered { IfOk result (λ name. IsOkAnd (frame_of self.old.settings bytes.now)
+            (HasDelivered self.old.nodes self.new.nodes turn.new name)) }
+        ensures failed { OnErr result (HasFailed self.old.nodes self.new.nodes (frame_of self.old.settings bytes.now)) }
+        ensures settings { self.new.settings ≡ self.old.settings }
+    {
+        let Ok(frame) = decode(self.alloc, &self.settings, bytes) else {
+            return Err(NoMemory);
+        };
+        deliver_at(&mut self.nodes, turn, &frame)?;
+        Ok(frame.to)
     }
 
     /// The node of a name starts something, and gives the frames that it sends, and the news.

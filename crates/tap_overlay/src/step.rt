@@ -1,17 +1,18 @@
-ghost use Rattle.std.specs.Prelude.{◌≡◌, Some, Err, IsTrue};
+ghost use Rattle.std.specs.Prelude.{◌≡◌, Some, Err, IsSomeAnd, IsTrue};
 ghost use Rattle.std.specs.Option.{ForSome};
 ghost use Rattle.tap_rule.specs.Node.{settings_of};
 ghost use Rattle.tap_node.specs.Node.{has_room_left};
-ghost use Rattle.tap_node.specs.Outcome.{AnswersAs, MayWant, start_outcome, take_outcome};
+ghost use Rattle.tap_node.specs.Outcome.{AnswersAs, MayWant, answer_lent, empty_turn, start_outcome, take_outcome};
 ghost use Rattle.tap_overlay.specs.Overlay.{node_among};
 ghost use Rattle.tap_overlay.specs.Start.{MayStart, rule_start};
-ghost use Rattle.tap_overlay.specs.Step.{IfRoom, StepsAt, answer_given};
+ghost use Rattle.tap_overlay.specs.Step.{Heeds, IfRoom, MayHeed, StepsAt, answer_given};
 
 use crate::fault::OverlayFault;
 use crate::start::Start;
 use indexmap::IndexMap;
 use tap_name::Name;
-use tap_node::{Node, NodeFault, Turn};
+use tap_node::{NoMemory, Node, NodeFault, Turn};
+use tap_wire::Frame;
 
 // The node of a name takes a frame.
 pub(crate) fn take_at(
@@ -26,6 +27,23 @@ pub(crate) fn take_at(
         return take_if_room(node, bytes);
     }
     Err(OverlayFault::NoNode)
+}
+
+// The receiver of a frame takes it.
+#[inline(always)]
+pub(crate) fn deliver_at(
+    nodes: &mut IndexMap<Name, Node>,
+    turn: &mut Turn,
+    frame: &Frame,
+) -> Result<(), NoMemory>
+    requires may { IsSomeAnd (node_among nodes.old.entries frame.now.to) (MayHeed frame.now) }
+    requires empty { turn.old ≡ empty_turn }
+    ensures { Heeds nodes.old.entries nodes.new.entries (answer_lent result turn.new) frame.now }
+{
+    let Some(node) = nodes.get_mut(&frame.to) else {
+        unreachable!()
+    };
+    node.take_read(turn, frame)
 }
 
 // The node of a name starts something.
