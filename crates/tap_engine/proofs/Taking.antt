@@ -1,6 +1,6 @@
 -- A frame that is outstanding, and what its receiver makes of it.
 use Rattle.std.proofs.Common.{◌≡◌, ◌≢◌, ◌⊎◌, inl, inr, ℕ, zero, suc, ◌<◌, Bool, true, false, List, [], ◌∷◌, length, slice_get, All, Option, None, Some, Result, Ok, Err, IfOk, IsOk, is_some, refl, ap, sym, subst, ◌∙◌, arith}
-use Rattle.std.specs.Prelude.{bytes_eq, if◌then◌else◌, option_and_then}
+use Rattle.std.specs.Prelude.{IsOkAnd, bytes_eq, if◌then◌else◌, option_and_then}
 use Rattle.std.specs.Option.{option_map}
 use Rattle.std.proofs.lemmas.Bool.{cases_Bool, true≢false}
 use Rattle.std.proofs.lemmas.Option.{get_or_from_slice_get, slice_get_within}
@@ -8,6 +8,7 @@ use Rattle.std.proofs.lemmas.Slice.Eq.{bytes_eq-Decides}
 use Rattle.tap_name.specs.Settings.{SettingsValue}
 use Rattle.tap_wire.specs.Reading.{frame_of}
 use Rattle.tap_wire.specs.Spelling.{spelling}
+use Rattle.tap_wire.specs.declared.fault.WireFault.{WireFault}
 use Rattle.tap_wire.specs.declared.frame.Frame.{Frame}
 use Rattle.tap_log.specs.declared.record.Record.{Record}
 use Rattle.tap_log.specs.Frames.{bytes_of}
@@ -15,10 +16,10 @@ use Rattle.tap_history.specs.Flights.{bytes_at}
 use Rattle.tap_history.specs.Moments.{outstanding}
 use Rattle.tap_rule.specs.Act.{act}
 use Rattle.tap_rule.specs.Event.Event.{Takes}
-use Rattle.tap_rule.specs.Node.{NodeState, name_of, settings_of}
+use Rattle.tap_rule.specs.Node.{NodeState, name_of}
 use Rattle.tap_rule.specs.Strange.{is_own_name, is_strange}
 use Rattle.tap_node.specs.Node.{NodeValue, running}
-use Rattle.tap_node.specs.Outcome.{AnswersAs, Outcome, acted_as, at_read, refused_by, take_outcome, turn_made}
+use Rattle.tap_node.specs.Outcome.{AnswersAs, Outcome, acted_as, at_frame, refused_by, turn_made}
 use Rattle.tap_node.specs.declared.fault.NodeFault.{NodeFault}
 use Rattle.tap_node.specs.declared.fault.NodeFault.TheVariants.{NoMemory as OutOfMemory, NotMine, Strange}
 use Rattle.tap_node.specs.declared.turn.Turn.{Turn}
@@ -31,14 +32,12 @@ use Rattle.tap_runs.proofs.Frames.{frames_kept}
 use Rattle.tap_safety_moves.proofs.Consequences.{none_is_strange}
 use Rattle.tap_safe_runs.proofs.Safe.{runs_are_sound}
 use Rattle.tap_overlay.specs.Overlay.{ChangesOnly, OverlayValue, node_among, node_at}
-use Rattle.tap_overlay.specs.Step.{HasStepped, NodeHasAnswered, StepsAt, answer_given}
+use Rattle.tap_overlay.specs.Step.{HasDelivered, HasFailed, HasStepped, Heeds, MayDeliver, NodeHasAnswered, StepsAt, answer_given}
 use Rattle.tap_overlay.specs.declared.fault.OverlayFault.{OverlayFault}
 use Rattle.tap_overlay.specs.declared.fault.OverlayFault.TheVariants.{Node as NodeRefuses}
 use Rattle.tap_engine.specs.KeptEngine.{AreReady}
-use Rattle.tap_engine.specs.Working.{HasTakenAt, IsActed, StillHas}
-use Rattle.tap_engine.specs.declared.engine.Acted.{Acted}
+use Rattle.tap_engine.specs.Working.{HasTakenAt, StillHas}
 use Rattle.tap_engine.specs.declared.engine.Engine.{Engine}
-use Rattle.tap_engine.specs.declared.stop.NoMemory.{NoMemory}
 use Rattle.tap_engine.proofs.Indices.{few_steps}
 use Rattle.tap_engine.proofs.Keeping.{on, seen}
 use Rattle.tap_engine.proofs.SoundCourse.{IsSound, IsSoundAt, course_is_sound}
@@ -191,29 +190,41 @@ want_alone given fault answers refused = elim answers [
   | inr ok ↦ let never : false ≡ true = subst IsOk refused ok in absurd (cc)
 ]
 
-memory_or_other : (answer : Result Turn NodeFault) → (answer ≡ Err OutOfMemory) ⊎ (answer ≢ Err OutOfMemory)
-memory_or_other (Ok turn) = inr (λ never. cc)
-memory_or_other (Err OutOfMemory) = inl refl
-memory_or_other (Err fault) = inr (λ never. cc)
-
 own_name : (node : NodeState) (name : List ℕ) → name_of node ≡ name → is_own_name node name ≡ true
 own_name node name is = (bytes_eq-Decides name (name_of node)).1 (sym is)
 
--- a frame that is read, and isn't strange to its receiver, makes this act by its rule
-module _ (p : SettingsValue) (node : NodeState) (frame : Frame) where
-  pub outcome_is : settings_of node ≡ p → name_of node ≡ frame.to → frame_of p (spelling p frame) ≡ Ok frame → is_strange node frame ≡ false
-      → take_outcome (running node) (spelling p frame) ≡ acted_as node (act node (Takes frame))
-  outcome_is settings name read fits =
-      ap (λ q. at_read (running node) (frame_of q (spelling p frame))) settings ∙ ap (at_read (running node)) read
-      ∙ ap (λ own. if own then by_strange (is_strange node frame) else refused_by (running node) (NotMine frame.to)) (own_name node frame.to name)
-      ∙ ap by_strange fits
-    where
-      by_strange : Bool → Outcome
-      by_strange strange = if strange then refused_by (running node) Strange else acted_as node (act node (Takes frame))
+-- a frame that isn't strange to its receiver makes this act by its rule
+outcome_is : (node : NodeState) (frame : Frame) → name_of node ≡ frame.to → is_strange node frame ≡ false
+    → at_frame (running node) frame ≡ acted_as node (act node (Takes frame))
+outcome_is node frame name fits =
+    ap (λ own. if own then by_strange (is_strange node frame) else refused_by (running node) (NotMine frame.to)) (own_name node frame.to name)
+    ∙ ap by_strange fits
+  where
+    by_strange : Bool → Outcome
+    by_strange strange = if strange then refused_by (running node) Strange else acted_as node (act node (Takes frame))
 
+-- ---- an outstanding frame may be delivered
+
+module _ (engine : Engine) (ready : AreReady engine) (place : ℕ) (o : IsOutstanding engine.settings engine.ledger.records place) where
+  -- its receiver among the nodes that are kept
+  kept_receiver : node_among engine.overlay.nodes o.frame.to ≡ Some (running (receiver_of engine ready place o).node)
+  kept_receiver =
+      (ready.kept.go_on refl).nodes.nodes_are o.frame.to ∙ ap (option_map running) (receiver_of engine ready place o).at
+
+  receiver_facts : IsSoundAt (seen engine).beginning engine.ledger.records o.frame.to (receiver_of engine ready place o).node
+  receiver_facts = (sound engine ready).nodes o.frame.to (receiver_of engine ready place o).node (receiver_of engine ready place o).at
+
+  pub may_deliver : MayDeliver engine.overlay.nodes o.frame
+  may_deliver = record {
+    node = (receiver_of engine ready place o).node;
+    there = kept_receiver;
+    room = receiver_facts.left;
+    fits = (receiver_of engine ready place o).fits;
+  }
+
+-- the frame at a place has been delivered
 module _ (before after : Engine) (ready : AreReady before) (place : ℕ) (o : IsOutstanding before.settings before.ledger.records place)
-    (given : Result Turn OverlayFault)
-    (step : StepsAt (λ node. take_outcome node (spelling before.settings o.frame)) before.overlay.nodes after.overlay.nodes o.frame.to given)
+    (turn : Turn) (name : List ℕ) (delivered : HasDelivered before.overlay.nodes after.overlay.nodes turn name o.frame)
     (settings : after.overlay.settings ≡ before.overlay.settings) where
   abbrev frame : Frame
   frame = o.frame
@@ -225,30 +236,22 @@ module _ (before after : Engine) (ready : AreReady before) (place : ℕ) (o : Is
   node = receiver.node
 
   facts : IsSoundAt (seen before).beginning before.ledger.records frame.to node
-  facts = (sound before ready).nodes frame.to node receiver.at
+  facts = receiver_facts before ready place o
 
-  has : HasStepped (take_outcome (running node) (spelling before.settings frame)) before.overlay.nodes after.overlay.nodes frame.to (running node) given
-  has = step.there (running node) ((ready.kept.go_on refl).nodes.nodes_are frame.to ∙ ap (option_map running) receiver.at)
+  has : HasStepped (at_frame (running node) frame) before.overlay.nodes after.overlay.nodes frame.to (running node) (Ok turn)
+  has = delivered.heeds.there (running node) (kept_receiver before ready place o)
 
-  answered : NodeHasAnswered (take_outcome (running node) (spelling before.settings frame)) (running node) has.is given
+  answered : NodeHasAnswered (at_frame (running node) frame) (running node) has.is (Ok turn)
   answered = has.step.free facts.left
 
   answers : AnswersAs (acted_as node (act node (Takes frame))) (running node) answered.answer has.is
-  answers = subst (λ x. AnswersAs x (running node) answered.answer has.is)
-      (outcome_is before.settings node frame facts.settings_are facts.name_is o.read receiver.fits) answered.answers
+  answers = subst (λ x. AnswersAs x (running node) answered.answer has.is) (outcome_is node frame facts.name_is receiver.fits) answered.answers
 
-  -- it acts, or memory was refused
-  pub takes_or_wants : (given ≡ Err (NodeRefuses OutOfMemory)) ⊎ IsOk given
-  takes_or_wants = elim (memory_or_other answered.answer) [
-    | inl memory ↦ inl (answered.given_is ∙ ap answer_given memory)
-    | inr other ↦ inr (subst IsOk (sym (answered.given_is ∙ ap answer_given (answers.answer other))) refl)
-  ]
-
-  pub has_taken_at : (acted : Acted) → IsActed frame.to given acted → HasTakenAt before after place acted
-  has_taken_at acted (named, ok) =
-      let is_ok = answer_ok answered.answer acted.turn (sym answered.given_is ∙ ok) in
-      let other : answered.answer ≢ Err OutOfMemory = λ memory. let never : Ok acted.turn ≡ Err OutOfMemory = sym is_ok ∙ memory in cc in
-      let both : Ok acted.turn ≡ Ok (turn_made node (act node (Takes frame))) = sym is_ok ∙ answers.answer other in
+  pub has_taken_at : HasTakenAt before after place (record { name = name; turn = turn })
+  has_taken_at =
+      let is_ok = answer_ok answered.answer turn (sym answered.given_is) in
+      let other : answered.answer ≢ Err OutOfMemory = λ memory. let never : Ok turn ≡ Err OutOfMemory = sym is_ok ∙ memory in cc in
+      let both : Ok turn ≡ Ok (turn_made node (act node (Takes frame))) = sym is_ok ∙ answers.answer other in
       record {
         number = o.number;
         frame = frame;
@@ -259,7 +262,7 @@ module _ (before after : Engine) (ready : AreReady before) (place : ℕ) (o : Is
           was = receiver.at;
           fits = receiver.fits;
           acts = record {
-            name_is = named;
+            name_is = delivered.name_is;
             turn_is = cc;
             changes = subst (ChangesOnly before.overlay.nodes after.overlay.nodes frame.to) (answers.node other) has.changes;
             settings = settings;
@@ -267,26 +270,21 @@ module _ (before after : Engine) (ready : AreReady before) (place : ℕ) (o : Is
         };
       }
 
+-- no node goes as a frame is delivered, or as memory is refused
+pub delivered_still : (before after : OverlayValue) (turn : Turn) (name : List ℕ) (frame : Frame)
+    → HasDelivered before.nodes after.nodes turn name frame → after.settings ≡ before.settings → StillHas before after
+delivered_still before after turn name frame delivered settings =
+    still_has (λ node. at_frame node frame) before after frame.to (Ok turn) delivered.heeds settings
+
+pub failed_still : (before after : OverlayValue) (read : Result Frame WireFault) (frame : Frame) → read ≡ Ok frame
+    → HasFailed before.nodes after.nodes read → after.settings ≡ before.settings → StillHas before after
+failed_still before after read _ is (inl same) settings =
+    record { settings = settings; there = λ name there. ap (λ nodes. is_some (node_among nodes name)) same ∙ there }
+failed_still before after read frame is (inr heeds) settings =
+    still_has (λ node. at_frame node frame) before after frame.to (Err (NodeRefuses OutOfMemory))
+    (subst (λ r. IsOkAnd r (Heeds before.nodes after.nodes (Err OutOfMemory))) is heeds) settings
+
 -- what holds of each that is made so holds of what is made
 pub if_ok : {A E : Type 0} (P Q : A → Type 0) → ((x : A) → P x → Q x) → (r : Result A E) → IfOk r P → IfOk r Q
 if_ok P Q onward (Ok x) is = onward x is
 if_ok P Q onward (Err e) is = is
-
--- the receiver of an outstanding frame has been handed its bytes
-module _ (before after : Engine) (ready : AreReady before) (place : ℕ) (o : IsOutstanding before.settings before.ledger.records place)
-    (bytes name : List ℕ) (given : Result Turn OverlayFault) (same : bytes ≡ spelling before.settings o.frame) (named : name ≡ o.frame.to)
-    (step : StepsAt (λ node. take_outcome node bytes) before.overlay.nodes after.overlay.nodes name given)
-    (settings : after.overlay.settings ≡ before.overlay.settings) where
-  step_so : StepsAt (λ node. take_outcome node (spelling before.settings o.frame)) before.overlay.nodes after.overlay.nodes o.frame.to given
-  step_so =
-      subst (λ n. StepsAt (λ node. take_outcome node (spelling before.settings o.frame)) before.overlay.nodes after.overlay.nodes n given) named
-      (subst (λ l. StepsAt (λ node. take_outcome node l) before.overlay.nodes after.overlay.nodes name given) same step)
-
-  pub take_answers : (given ≡ Err (NodeRefuses OutOfMemory)) ⊎ IsOk given
-  take_answers = takes_or_wants before after ready place o given step_so settings
-
-  pub take_done : (r : Result Acted NoMemory) → IfOk r (IsActed name given) → IfOk r (HasTakenAt before after place)
-  take_done r is =
-      if_ok (IsActed name given) (HasTakenAt before after place)
-      (λ acted acts.
-      has_taken_at before after ready place o given step_so settings acted (subst (λ n. IsActed n given acted) named acts)) r is

@@ -5,12 +5,11 @@ ghost use Rattle.tap_engine.specs.SeenTurns.{turn_records};
 
 use crate::engine::Engine;
 use crate::pushes::push_turn;
-use crate::stop::{Stop, only_memory};
+use crate::stop::{NoMemory, Stop};
 use tap_log::{Record, Refusal};
 use tap_name::Name;
-use tap_node::News;
+use tap_node::{News, Turn};
 use tap_node_common::FrameList;
-use tap_wire::decode_head;
 
 // The room for a group beside that for its frames, with the room that is kept after it: the record of the frame that is taken, and one of
 // news before and one after the frames.
@@ -42,13 +41,10 @@ impl Engine {
             return Err(Stop::Refused(Refusal::NoSuchFlight(self.ledger.outstanding())));
         };
         let number = flight.number;
-        let Ok(head) = decode_head(&self.settings, flight.bytes) else {
-            unreachable!()
-        };
-        let name = head.to;
-        match self.overlay.take(&name, flight.bytes) {
-            Ok(turn) => self.add_taken(number, &name, turn.sent, &turn.news),
-            Err(fault) => Err(Stop::from(only_memory(fault))),
+        let mut turn = Turn::empty(self.alloc);
+        match self.overlay.deliver(&mut turn, flight.bytes) {
+            Ok(name) => self.add_taken(number, &name, turn.sent, &turn.news),
+            Err(refused) => Err(Stop::from(NoMemory::from(refused))),
         }
     }
 

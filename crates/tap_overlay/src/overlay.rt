@@ -10,7 +10,7 @@ ghost use Rattle.tap_overlay.specs.Overlay.{is_core_node_status, member_at, node
 ghost use Rattle.tap_node.specs.Outcome.{MayWant, empty_turn, start_outcome, take_outcome};
 
 use crate::fault::OverlayFault;
-use crate::memory::only_memory;
+use crate::memory::{only_memory, only_memory_read};
 use crate::start::Start;
 use crate::step::{deliver_at, start_at, take_at};
 use indexmap::IndexMap;
@@ -148,8 +148,9 @@ impl Overlay {
         ensures failed { OnErr result (HasFailed self.old.nodes self.new.nodes (frame_of self.old.settings bytes.now)) }
         ensures settings { self.new.settings ≡ self.old.settings }
     {
-        let Ok(frame) = decode(self.alloc, &self.settings, bytes) else {
-            return Err(NoMemory);
+        let frame = match decode(self.alloc, &self.settings, bytes) {
+            Ok(frame) => frame,
+            Err(fault) => return Err(only_memory_read(fault)),
         };
         deliver_at(&mut self.nodes, turn, &frame)?;
         Ok(frame.to)
