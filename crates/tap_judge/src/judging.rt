@@ -1,5 +1,7 @@
-ghost use Rattle.std.specs.Prelude.{◌≡◌, ◌-◌, ◌^◌, ◌<◌, IfSome, None, length};
+ghost use Rattle.std.specs.Prelude.{◌≡◌, ◌-◌, ◌^◌, ◌<◌, IfOk, IfSome, None, length};
+ghost use Rattle.tap_carried.specs.LogTurns.{beginning_records};
 ghost use Rattle.tap_engine.specs.World.{whole_log};
+ghost use Rattle.tap_lawful.specs.Next.{beginning_in};
 ghost use Rattle.tap_lawful.specs.PlayedLaws.{BeginsWith};
 ghost use Rattle.tap_lawful.specs.RunLaws.{left_in};
 ghost use Rattle.tap_own_scripts.specs.Own.{own_script};
@@ -34,14 +36,42 @@ pub fn judge(alloc: Global, log: &Log) -> Verdict
         Ok(scenario) => scenario,
         Err(NoMemory) => return Verdict::NoMemory,
     };
-    let mut player = match Player::new(alloc, &scenario) {
-        Ok(player) => player,
-        Err(tap_replay::NoMemory) => return Verdict::NoMemory,
-    };
+    match verdict_of_run(alloc, &scenario, log) {
+        Ok(verdict) => verdict,
+        Err(tap_replay::NoMemory) => Verdict::NoMemory,
+    }
+}
+
+// The verdict by the run of the log's own scenario. The player is dropped in one place: what is shown of that is long.
+fn verdict_of_run(
+    alloc: Global,
+    scenario: &Scenario,
+    log: &Log,
+) -> Result<Verdict, tap_replay::NoMemory>
+    requires own { scenario.now ≡ own_script log.now.records }
+    requires shape { IsShape log.now.records }
+    requires few { length log.now.records < 2 ^ 32 - 1 }
+    ensures { IfOk result (IsVerdictOn log.now.records) }
+{
+    let mut player = Player::new(alloc, scenario)?;
+    Ok(verdict_from_beginning(&mut player, scenario, log))
+}
+
+// The verdict by a player that has taken no turn.
+fn verdict_from_beginning(player: &mut Player, scenario: &Scenario, log: &Log) -> Verdict
+    requires own { scenario.now ≡ own_script log.now.records }
+    requires shape { IsShape log.now.records }
+    requires few { length log.now.records < 2 ^ 32 - 1 }
+    requires played { HasPlayed scenario.now player.old }
+    requires begun { player.old.over ≡ None }
+    requires may { MayTurn scenario.now (whole_log player.old.world) }
+    requires beginning { whole_log player.old.world ≡ beginning_records scenario.now.carrier (beginning_in scenario.now) }
+    ensures { IsVerdictOn log.now.records result }
+{
     if player.log().len() == log.len() {
         return Verdict::Lawful;
     }
-    play(&mut player, &scenario, log)
+    play(player, scenario, log)
 }
 
 // Takes one turn after the other, up to the verdict.
