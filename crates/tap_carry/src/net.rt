@@ -16,6 +16,9 @@ pub const MOST_PACKETS: u32 = 4_000_000_000;
 // For so many packets places are made at once.
 const PLACES: u32 = 64;
 
+// The places of so many packets that have ended are forgotten.
+const MOST_ENDED: u32 = 1_024;
+
 /// A packet: it carries a frame, or the acknowledgement of one.
 ///
 /// Rule: docs/PROTOCOL.md, "Packets".
@@ -50,11 +53,15 @@ pub struct Numbered {
 ///
 /// The places of the numbers under way are found as those of outstanding frames are, and with each number is kept the
 /// key of its packet, which lies in a slab. So a call takes time that grows with the logarithm of how many were put. Some
-/// 9 bytes are kept for each packet that was put, and the packet itself only while it is under way.
+/// 9 bytes are kept for each packet that was put since none was under way, or since shortly before that; and the packet itself
+/// only while it is under way.
 ///
 /// Rule: docs/PROTOCOL.md, "Packets".
 #[derive(Drop)]
 pub struct Net {
+    alloc: Global,
+    // So many packets were put before those that have places, and have ended.
+    ended: u32,
     places: Outstanding,
     packets: Slab<Packet>,
     // For so many more packets there are places at least.
@@ -62,15 +69,16 @@ pub struct Net {
 }
 
 impl Model for Net {
+    ghost use Rattle.std.specs.Prelude.{◌+◌};
     ghost use Rattle.tap_carry.specs.Net.{NetValue};
 
     ghost Value = { NetValue };
 
     ghost use Rattle.tap_carry.specs.NetKept.{IsNet, packets_of};
 
-    ghost view = { λ n. record { made = n.places.sent; packets = packets_of n.packets n.places.frames } };
+    ghost view = { λ n. record { made = n.ended + n.places.sent; packets = packets_of n.ended n.packets n.places.frames } };
 
-    ghost invariant = { λ n. IsNet n.places n.packets n.room };
+    ghost invariant = { λ n. IsNet n.ended n.places n.packets n.room };
 }
 
 impl Net {
@@ -79,6 +87,8 @@ impl Net {
         ensures { result ≡ record { made = 0; packets = [] } }
     {
         Net {
+            alloc,
+            ended: 0,
             places: Outstanding::new(alloc),
             packets: Slab::new(alloc),
             room: 0,
@@ -90,7 +100,7 @@ impl Net {
         ensures count { result ≡ self.now.made }
         ensures most { result ≤ most_packets }
     {
-        self.places.sent()
+        self.ended + self.places.sent()
     }
 
     /// How many packets are under way.
@@ -111,10 +121,42 @@ impl Net {
             (if n == self.old.made then Some packet else packet_of self.old.packets n)) }
         ensures err { OnErr result (self.new ≡ self.old) }
     {
+        self.forget();
+        self.put_next(packet)
+    }
+
+    // Forgets the places of packets that have ended, if none is under way and they are many.
+    #[inline(always)]
+    fn forget(&mut self)
+        ensures { self.new ≡ self.old }
+    {
+        if !self.places.is_empty() {
+            return;
+        }
+        let sent = self.places.sent();
+        if sent < MOST_ENDED {
+            return;
+        }
+        self.ended += sent;
+        self.places = Outstanding::new(self.alloc);
+        self.room = 0;
+    }
+
+    // Puts a packet, and gives its number.
+    #[inline(always)]
+    fn put_next(&mut self, packet: Packet) -> Result<u32, NoMemory>
+        requires { self.old.made < most_packets }
+        ensures number { IfOk result (λ number. number ≡ self.old.made) }
+        ensures after { OnOk result (self.new ≡ put_with self.old packet) }
+        ensures look_up { OnOk result ((n : ℕ) →
+            packet_of self.new.packets n ≡
+            (if n == self.old.made then Some packet else packet_of self.old.packets n)) }
+        ensures err { OnErr result (self.new ≡ self.old) }
+    {
         self.room = make_room(&mut self.places, self.room)?;
         let key = self.packets.insert(packet)?;
         self.room -= 1;
-        Ok(self.places.send_reserved(key))
+        Ok(self.ended + self.places.send_reserved(key))
     }
 
     /// The packet at a place, from 0 for the least number, and `None` exactly if the place is at or above how many are
@@ -125,7 +167,7 @@ impl Net {
         let flight = self.places.frame_at(place)?;
         let packet = *self.packets.get(flight.record_place)?;
         Some(Numbered {
-            number: flight.number,
+            number: self.ended + flight.number,
             packet,
         })
     }
@@ -147,7 +189,7 @@ impl Net {
         let flight = self.places.take(place)?;
         let packet = self.packets.try_remove(flight.record_place)?;
         Some(Numbered {
-            number: flight.number,
+            number: self.ended + flight.number,
             packet,
         })
     }

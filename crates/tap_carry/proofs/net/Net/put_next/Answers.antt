@@ -1,8 +1,8 @@
-use Rattle.std.proofs.Common.{◌≡◌, ◌+◌, ◌-◌, ◌∷◌, [], ◌++◌, refl, ap, ◌∙◌, arith}
+use Rattle.std.proofs.Common.{◌≡◌, ◌+◌, ◌-◌, ◌<◌, ◌∷◌, [], ◌++◌, refl, ap, ◌∙◌, arith}
 use Rattle.tap_outstanding.specs.Outstanding.{OutstandingValue, frame_with}
-use Rattle.tap_carry.specs.Net.{put_with}
+use Rattle.tap_carry.specs.Net.{NetValue, most_packets, put_with}
 use Rattle.tap_carry.proofs.Kept.{found-put, net-put, net_of, value-put}
-use Rattle.tap_carry.proofs.net.Net.put.Goals as goal
+use Rattle.tap_carry.proofs.net.Net.put_next.Goals as goal
 
 frames : (c : goal.After-send_reserved)
     → c.send_reserved.new.self.frames ≡ c.self.inside.places.frames ++ frame_with c.self.inside.places.sent c.in_ok-key.key ∷ []
@@ -12,22 +12,25 @@ sent : (c : goal.After-send_reserved) → c.send_reserved.new.self.sent ≡ c.se
 sent c = ap (λ (o : OutstandingValue). o.sent) c.send_reserved.ensures.after ∙ rw c.make_room.ensures.sent refl
 
 after_put : (c : goal.After-send_reserved)
-    → net_of c.send_reserved.new.self c.insert.new.self ≡ put_with (net_of c.self.inside.places c.self.inside.packets) c.args.packet
+    → net_of c.self.inside.ended c.send_reserved.new.self c.insert.new.self ≡ put_with (net_of c.self.inside.ended c.self.inside.places c.self.inside.packets) c.args.packet
 after_put c =
-    value-put c.self.inside.places c.self.inside.packets c.self.inside.room c.self.invariant c.send_reserved.new.self c.insert.new.self c.args.packet
+    value-put c.self.inside.ended c.self.inside.places c.self.inside.packets c.self.inside.room c.self.invariant c.send_reserved.new.self c.insert.new.self c.args.packet
     c.in_ok-key.key (frames c) c.in_ok-key.ensures.was_vacant c.in_ok-key.ensures.updates
     (sent c)
+
+few : (c : goal.After-send_reserved) → c.self.inside.ended + c.self.inside.places.sent < most_packets
+few c = let made = ap (λ (n : NetValue). n.made) c.self.view_is in omega (arith, made, c.requires)
 
 pub invariant_of-self-2 : goal.invariant_of-self-2
 invariant_of-self-2 c =
     let room = ap (λ (o : OutstandingValue). o.room) c.send_reserved.ensures.after in
-    net-put c.self.inside.places c.self.inside.packets c.self.inside.room c.self.invariant c.send_reserved.new.self c.insert.new.self c.args.packet
+    net-put c.self.inside.ended c.self.inside.places c.self.inside.packets c.self.inside.room c.self.invariant c.send_reserved.new.self c.insert.new.self c.args.packet
     c.in_ok-key.key (frames c) c.in_ok-key.ensures.was_vacant c.in_ok-key.ensures.updates (c.in_ok-self-inside.field-0 - 1) (sent c) c.in_ok-key.ensures.len
-    (omega (arith, room, c.in_ok-self-inside.ensures.ok.1))
+    (omega (arith, room, c.in_ok-self-inside.ensures.ok.1)) (few c)
 
 pub returns-clause-after : goal.returns-clause-after
 returns-clause-after c = rw (← c.self.view_is) (after_put c)
 
 pub returns-clause-look_up : goal.returns-clause-look_up
 returns-clause-look_up c = λ n. rw (← c.self.view_is)
-    (found-put c.self.inside.places c.self.inside.packets c.self.inside.room c.self.invariant (net_of c.send_reserved.new.self c.insert.new.self) c.args.packet n (after_put c))
+    (found-put c.self.inside.ended c.self.inside.places c.self.inside.packets c.self.inside.room c.self.invariant (net_of c.self.inside.ended c.send_reserved.new.self c.insert.new.self) c.args.packet n (after_put c))
