@@ -13,7 +13,7 @@ const MEMBERS: [&str; 7] = [
     "abc",
     "@abC",
     "@a-b",
-    "crate::ab",
+    "@@ab",
     "@abcdefghijklmnopqrstuvwxyz0123456789abcdefghijklmnopqrstuvwxyz012",
     "@abc#1",
 ];
