@@ -1,4 +1,4 @@
--- What a page is told of a run: the bytes that are printed, and the exit status.
+-- What a page gets of a run: the bytes that are printed, and the exit status.
 use Rattle.std.specs.Prelude.{◌≡◌, ◌≤◌, ◌⊎◌, Bool, ℕ, List, [], ◌∷◌, codes, if◌then◌else◌, length, Option, None, Some, take}
 use Rattle.tap_io.specs.Source.{SourceState}
 use Rattle.tap_engine.specs.World.{WorldValue}

@@ -64,8 +64,8 @@ fn run(
 /// Runs the scenario that the bytes of `text` spell, and prints at the front of `room` what the program prints: the text of the log, brief if
 /// asked for, and the fault line. `len` is then how many bytes these are. Answers the exit status of the program.
 ///
-/// If `room` is too short for all of it, some first bytes are printed, and the answer is 4, the exit status of a failed write. If memory is
-/// refused before the text is looked at, nothing is printed, and the answer is 6.
+/// If `room` is too short for all of it, some first bytes are printed, and the answer is 4, the exit status of a failed write. That all is printed
+/// if there is room for it isn't promised. If memory is refused before the text is looked at, nothing is printed, and the answer is 6.
 ///
 /// Rule: docs/FORMATS.md, "The fault line and the exit status".
 #[unsafe(no_mangle)]
