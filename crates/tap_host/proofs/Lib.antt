@@ -1,0 +1,5 @@
+mod Kept
+mod Letters
+mod Met
+mod Steps
+mod Ways

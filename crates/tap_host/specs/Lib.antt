@@ -1,0 +1,5 @@
+pub mod Actor
+pub mod Host
+pub mod Intake
+pub mod Mail
+pub mod Status

@@ -1,0 +1,20 @@
+//! A node as a process: a node with its outbox and its inbox, which takes lines and gives lines, and its run over a source and a sink.
+//!
+//! [`Host`] is the node under a carrier: each line in makes one step of it, and the lines out are added to a vector. [`run_node`] is all that
+//! a program needs: it reads the words, then line after line of a source, and writes what each brings to a sink before it reads the next.
+#![tactic(auto)]
+
+mod actor;
+mod host;
+mod intake;
+mod lines;
+mod mail;
+mod memory;
+mod run;
+mod starting;
+mod status;
+
+pub use host::{Going, Host};
+pub use memory::NoMemory;
+pub use run::run_node;
+pub use status::HostStatus;

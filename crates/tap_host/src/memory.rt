@@ -1,0 +1,47 @@
+use std::alloc::{AllocError, AllocFailed};
+use std::error::Error;
+use std::fmt;
+
+/// Memory was refused.
+///
+/// Rule: docs/MAP.md, "How the sources are written".
+#[derive(Clone, Copy, Debug, PartialEq, Eq)]
+pub struct NoMemory;
+
+impl fmt::Display for NoMemory {
+    fn fmt<W: fmt::Write>(&self, f: &mut fmt::Formatter<W>) -> fmt::Result {
+        f.write_str("no memory")
+    }
+}
+
+impl Error for NoMemory {}
+
+impl From<AllocError> for NoMemory {
+    fn from(_: AllocError) -> NoMemory {
+        NoMemory
+    }
+}
+
+impl<T: Drop> From<AllocFailed<T>> for NoMemory {
+    fn from(_: AllocFailed<T>) -> NoMemory {
+        NoMemory
+    }
+}
+
+impl From<tap_carry::NoMemory> for NoMemory {
+    fn from(_: tap_carry::NoMemory) -> NoMemory {
+        NoMemory
+    }
+}
+
+impl From<tap_host_line::NoMemory> for NoMemory {
+    fn from(_: tap_host_line::NoMemory) -> NoMemory {
+        NoMemory
+    }
+}
+
+impl From<tap_node::NoMemory> for NoMemory {
+    fn from(_: tap_node::NoMemory) -> NoMemory {
+        NoMemory
+    }
+}

@@ -1,0 +1,13 @@
+-- What is known of the command.
+use Rattle.std.proofs.Common.{◌≡◌, refl, true}
+use Rattle.clap.specs.Words.{is_simple, is_simple_and_free}
+use Rattle.clap.proofs.OnLiterals.{clap_on_literals}
+use Rattle.tap_host_line.specs.Command.{command_app}
+
+pub is_simple_here : is_simple command_app ≡ true
+unfolding clap_on_literals command_app
+is_simple_here = refl
+
+pub is_free_here : is_simple_and_free command_app ≡ true
+unfolding clap_on_literals command_app
+is_free_here = refl

@@ -1,0 +1,41 @@
+use Rattle.std.proofs.Common.{◌≡◌, ◌∙◌, List, None, Some, [], ap, sym, inl, inr, map, ◌∷◌, refl}
+use Rattle.std.specs.Prelude.{◌≢◌, ok_or}
+use Rattle.std.specs.String.{string_bytes}
+use Rattle.clap.specs.Words.{HasKind, Kinds, Row, Text, kind_of, matches_of}
+use Rattle.clap.specs.declared.error.Error.{Error}
+use Rattle.clap.specs.declared.error.ErrorKind.TheVariants.{OutOfMemory}
+use Rattle.tap_host_line.specs.Command.{command_app, faults}
+use Rattle.tap_host_line.specs.Words.{asked_by, asked_of_rows, asked_unless}
+use Rattle.tap_host_line.specs.declared.asked.WordsRefusal.TheVariants.{Usage}
+use Rattle.tap_host_line.proofs.asked.read_words.Goals as goal
+
+accepted : (words : List Text) (rows : List Row) → faults words ≡ [] → rows ≡ matches_of command_app words → asked_of_rows rows ≡ asked_by words
+unfolding asked_by
+accepted words rows none same = rw (none, same) refl
+
+refused_by : (kinds : Kinds) (rows : List Row) (e : Error) → HasKind kinds e → kind_of e ≢ OutOfMemory → None ≡ asked_unless kinds rows
+refused_by [] rows e (inl memory) other = absurd (other memory)
+refused_by [] rows e (inr h) other = absurd h
+refused_by (kind ∷ kinds) rows e h other = refl
+
+refused : (words : List Text) (e : Error) → HasKind (faults words) e → kind_of e ≢ OutOfMemory → None ≡ asked_by words
+unfolding asked_by
+refused words e h other = refused_by (faults words) (matches_of command_app words) e h other
+
+pub returns-in-Some-clause-value : goal.returns-in-Some-clause-value
+returns-in-Some-clause-value c = λ _.
+    ap (λ asked. ok_or asked Usage) (c.in-Some.ensures.value
+    ∙ accepted (map string_bytes c.args.words.now) _ c.in-Ok.ensures.faults c.in-Ok.ensures.ok)
+
+pub returns-in-Ok-clause-value : goal.returns-in-Ok-clause-value
+returns-in-Ok-clause-value c = λ _.
+    ap (λ asked. ok_or asked Usage) (c.in-None.ensures.value
+    ∙ accepted (map string_bytes c.args.words.now) _ c.in-Ok.ensures.faults c.in-Ok.ensures.ok)
+
+pub returns : goal.returns
+returns c = record {
+  value = λ _.
+      ap (λ asked. ok_or asked Usage) (refused (map string_bytes c.args.words.now) c.in-Err.error c.in-Err.ensures.faults
+      (λ e. c.in_default.not-OutOfMemory (c.kind.ensures ∙ e)));
+  name = tt;
+}

@@ -1,0 +1,20 @@
+-- The command that reads the words: four options, each with one value.
+use Rattle.std.specs.Prelude.{List, codes, Some, true}
+use Rattle.clap.specs.Words.{App, Kinds, Rule, Text, fault_of, new_app, new_rule, with_rule}
+use Rattle.clap.specs.declared.builder.ArgAction.TheVariants.{Set}
+
+-- an option of this name
+abbrev pub option_rule : Text → Rule
+option_rule name = record (new_rule name) { long = Some name; action = Some Set }
+
+abbrev pub bare_app : App
+bare_app = record (new_app (codes "tapestry_node")) { top = record (new_app (codes "tapestry_node")).top { no_binary_name = true } }
+
+unfoldable pub command_app : App
+command_app =
+    with_rule (with_rule (with_rule (with_rule bare_app
+    (option_rule (codes "base"))) (option_rule (codes "digits"))) (option_rule (codes "width"))) (option_rule (codes "name"))
+
+-- why the command refuses the words; nothing if it takes them
+unfoldable pub faults : List Text → Kinds
+faults words = fault_of command_app words

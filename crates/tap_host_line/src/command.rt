@@ -1,0 +1,40 @@
+ghost use Rattle.std.specs.Prelude.{◌≡◌, false, map, IfOk};
+ghost use Rattle.std.specs.String.{string_bytes};
+ghost use Rattle.clap.specs.Words.{FailsBy, app_of, found_of, matches_of, rows_of, rule_of};
+ghost use Rattle.tap_host_line.specs.Command.{bare_app, command_app, faults, option_rule};
+
+use clap::{Arg, ArgAction, ArgMatches, Command, Error};
+use std::alloc::{AllocError, Global};
+
+// An option with one value.
+fn option_arg<'a>(alloc: Global, name: &'a str) -> Arg<'a>
+    ensures rule { rule_of result ≡ option_rule name.now }
+    ensures local { result.global ≡ false }
+{
+    Arg::new(alloc, name).long(name).action(ArgAction::Set)
+}
+
+fn bare_command<'a>(alloc: Global) -> Command<'a>
+    ensures { app_of result ≡ bare_app }
+{
+    Command::new(alloc, "tapestry_node").no_binary_name(true)
+}
+
+// The command: four options.
+fn command<'a>(alloc: Global) -> Result<Command<'a>, AllocError>
+    ensures { IfOk result (λ c. app_of c ≡ command_app) }
+{
+    bare_command(alloc)
+        .arg(option_arg(alloc, "base"))?
+        .arg(option_arg(alloc, "digits"))?
+        .arg(option_arg(alloc, "width"))?
+        .arg(option_arg(alloc, "name"))
+}
+
+// What the command finds in the words, or why it refuses them.
+pub(crate) fn matches<'a>(alloc: Global, words: &'a [String]) -> Result<ArgMatches<'a>, Error>
+    ensures ok { IfOk result (λ m. rows_of (found_of m) ≡ matches_of command_app (map string_bytes words.entry.now)) }
+    ensures faults { FailsBy (faults (map string_bytes words.entry.now)) result }
+{
+    command(alloc)?.try_get_matches_from(words)
+}

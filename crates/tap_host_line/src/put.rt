@@ -1,0 +1,222 @@
+ghost use Rattle.std.specs.Prelude.{◌≡◌, ◌<◌, ◌++◌, [], All, length, codes, decimal, OnOk, if◌then◌else◌};
+ghost use Rattle.hex.specs.Hex.{encode_lower};
+ghost use Rattle.tap_name.specs.Name.{text_of_name};
+ghost use Rattle.tap_host_line.specs.Texts.{text_of_ack, text_of_begun, text_of_count, text_of_news, text_of_packet, text_of_refused, text_of_server, text_of_status};
+
+use crate::memory::NoMemory;
+use crate::why::Why;
+use itoa::Buffer;
+use std::alloc::Global;
+use tap_name::{Name, text_of_digit};
+use tap_node_common::News;
+
+/// Adds the line of a packet that carries this frame.
+///
+/// Rule: docs/NETWORK.md, "Lines".
+pub fn put_packet(
+    alloc: Global,
+    out: &mut Vec<u8>,
+    to: &Name,
+    seq: u32,
+    frame: &[u8],
+) -> Result<(), NoMemory>
+    ensures { OnOk result (out.new.items ≡ out.old.items ++ text_of_packet to.now seq frame.now) }
+{
+    out.extend_from_slice(b"packet ")?;
+    put_name(out, to)?;
+    out.extend_from_slice(b" ")?;
+    put_number(out, seq)?;
+    out.extend_from_slice(b" ")?;
+    put_hex(alloc, out, frame)?;
+    out.extend_from_slice(b"\n")?;
+    Ok(())
+}
+
+/// Adds the line of the acknowledgement of a number.
+///
+/// Rule: docs/NETWORK.md, "Lines".
+pub fn put_ack(out: &mut Vec<u8>, to: &Name, seq: u32) -> Result<(), NoMemory>
+    ensures { OnOk result (out.new.items ≡ out.old.items ++ text_of_ack to.now seq) }
+{
+    out.extend_from_slice(b"ack ")?;
+    put_name(out, to)?;
+    out.extend_from_slice(b" ")?;
+    put_number(out, seq)?;
+    out.extend_from_slice(b"\n")?;
+    Ok(())
+}
+
+/// Adds the line that a start was taken.
+///
+/// Rule: docs/NETWORK.md, "Lines".
+pub fn put_begun(out: &mut Vec<u8>) -> Result<(), NoMemory>
+    ensures { OnOk result (out.new.items ≡ out.old.items ++ text_of_begun) }
+{
+    out.extend_from_slice(b"begun\n")?;
+    Ok(())
+}
+
+/// Adds the line that the line of this number, from 1, wasn't taken.
+///
+/// Rule: docs/NETWORK.md, "Lines".
+pub fn put_refused(out: &mut Vec<u8>, number: u64, why: Why) -> Result<(), NoMemory>
+    ensures { OnOk result (out.new.items ≡ out.old.items ++ text_of_refused number why) }
+{
+    out.extend_from_slice(b"refused ")?;
+    let mut buffer = Buffer::new();
+    out.extend_from_slice(buffer.format(number).as_bytes())?;
+    out.extend_from_slice(b" ")?;
+    out.extend_from_slice(why.word().as_bytes())?;
+    out.extend_from_slice(b"\n")?;
+    Ok(())
+}
+
+/// Adds the lines of the news of a step.
+///
+/// Rule: docs/NETWORK.md, "Lines".
+pub fn put_news(out: &mut Vec<u8>, news: &News) -> Result<(), NoMemory>
+    ensures { OnOk result (out.new.items ≡ out.old.items ++ text_of_news news.now) }
+{
+    match news {
+        News::Nothing => Ok(()),
+        News::Core => put_text(out, b"core\n"),
+        News::Gone => put_text(out, b"gone\n"),
+        News::Answered { ticket, server } => put_answered(out, *ticket, server),
+        News::Cast {
+            cast,
+            reached,
+            closed,
+        } => put_cast(out, *cast, *reached, *closed),
+    }
+}
+
+/// Adds the line that says what the node is, by a word.
+///
+/// Rule: docs/NETWORK.md, "Lines".
+pub fn put_status(out: &mut Vec<u8>, word: &str) -> Result<(), NoMemory>
+    ensures { OnOk result (out.new.items ≡ out.old.items ++ text_of_status word.now) }
+{
+    out.extend_from_slice(b"status ")?;
+    out.extend_from_slice(word.as_bytes())?;
+    out.extend_from_slice(b"\n")?;
+    Ok(())
+}
+
+/// Adds the line that says how many there are of what a word says.
+///
+/// Rule: docs/NETWORK.md, "Lines".
+pub fn put_count(out: &mut Vec<u8>, word: &str, count: u64) -> Result<(), NoMemory>
+    ensures { OnOk result (out.new.items ≡ out.old.items ++ text_of_count word.now count) }
+{
+    out.extend_from_slice(word.as_bytes())?;
+    out.extend_from_slice(b" ")?;
+    let mut buffer = Buffer::new();
+    out.extend_from_slice(buffer.format(count).as_bytes())?;
+    out.extend_from_slice(b"\n")?;
+    Ok(())
+}
+
+// Adds the line of the answer to a lookup.
+fn put_answered(out: &mut Vec<u8>, ticket: u32, server: &Option<Name>) -> Result<(), NoMemory>
+    ensures { OnOk result (out.new.items ≡ out.old.items ++ (codes "answered " ++ decimal ticket ++ codes " " ++ text_of_server server.now ++ codes "\n")) }
+{
+    out.extend_from_slice(b"answered ")?;
+    put_number(out, ticket)?;
+    out.extend_from_slice(b" ")?;
+    put_server(out, server)?;
+    out.extend_from_slice(b"\n")?;
+    Ok(())
+}
+
+// Adds who answers a lookup.
+fn put_server(out: &mut Vec<u8>, server: &Option<Name>) -> Result<(), NoMemory>
+    ensures { OnOk result (out.new.items ≡ out.old.items ++ text_of_server server.now) }
+{
+    match server {
+        Some(server) => {
+            out.extend_from_slice(b"server ")?;
+            put_name(out, server)
+        }
+        None => put_text(out, b"none"),
+    }
+}
+
+// Adds the lines of the news of a cast.
+fn put_cast(
+    out: &mut Vec<u8>,
+    cast: u32,
+    reached: bool,
+    closed: bool,
+) -> Result<(), NoMemory>
+    ensures { OnOk result (out.new.items ≡ out.old.items
+        ++ ((if reached then codes "reached " ++ decimal cast ++ codes "\n" else [])
+        ++ (if closed then codes "closed " ++ decimal cast ++ codes "\n" else []))) }
+{
+    if reached {
+        put_one(out, b"reached ", cast)?;
+    }
+    if closed {
+        put_one(out, b"closed ", cast)?;
+    }
+    Ok(())
+}
+
+// Adds the line of a number after a word.
+fn put_one(out: &mut Vec<u8>, word: &[u8], number: u32) -> Result<(), NoMemory>
+    ensures { OnOk result (out.new.items ≡ out.old.items ++ (word.now ++ decimal number ++ codes "\n")) }
+{
+    out.extend_from_slice(word)?;
+    put_number(out, number)?;
+    out.extend_from_slice(b"\n")?;
+    Ok(())
+}
+
+// Adds a text.
+fn put_text(out: &mut Vec<u8>, text: &[u8]) -> Result<(), NoMemory>
+    ensures { OnOk result (out.new.items ≡ out.old.items ++ text.now) }
+{
+    out.extend_from_slice(text)?;
+    Ok(())
+}
+
+// Adds a name, a byte for each digit.
+fn put_name(out: &mut Vec<u8>, name: &Name) -> Result<(), NoMemory>
+    ensures { OnOk result (out.new.items ≡ out.old.items ++ text_of_name name.now) }
+{
+    let digits = name.digits();
+    let digits = digits.as_slice();
+    let mut text = [0; 40];
+    print_digits(digits, &mut text[..digits.len()]);
+    out.extend_from_slice(&text[..digits.len()])?;
+    Ok(())
+}
+
+// Prints digits, each in its place.
+#[inline(always)]
+fn print_digits(digits: &[u8], text: &mut [u8])
+    requires places { length text.old ≡ length digits.now }
+    requires below { All (λ digit. digit < 16) digits.now }
+    ensures { text.new ≡ text_of_name digits.now }
+{
+    for at in 0..digits.len() {
+        text[at] = text_of_digit(digits[at]);
+    }
+}
+
+// Adds a number in decimal.
+fn put_number(out: &mut Vec<u8>, number: u32) -> Result<(), NoMemory>
+    ensures { OnOk result (out.new.items ≡ out.old.items ++ decimal number) }
+{
+    let mut buffer = Buffer::new();
+    out.extend_from_slice(buffer.format(number).as_bytes())?;
+    Ok(())
+}
+
+// Adds bytes in hexadecimal.
+fn put_hex(alloc: Global, out: &mut Vec<u8>, bytes: &[u8]) -> Result<(), NoMemory>
+    ensures { OnOk result (out.new.items ≡ out.old.items ++ encode_lower bytes.now) }
+{
+    let text = hex::encode(alloc, bytes)?;
+    out.extend_from_slice(text.as_bytes())?;
+    Ok(())
+}
