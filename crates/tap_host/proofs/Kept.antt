@@ -1,19 +1,27 @@
 -- What an actor keeps at each step of its node.
-use Rattle.std.proofs.Common.{◌≡◌, ◌≢◌, ℕ, Bool, true, false, cond, List, Result, Ok, Err, refl, sym, subst, ap, ◌∙◌, inl, inr, ◌⊎◌, true≢false}
+use Rattle.std.proofs.Common.{◌≡◌, ◌≢◌, ℕ, Bool, true, false, cond, List, Option, None, Some, Result, Ok, Err, arith, refl, sym, subst, ap, ◌∙◌, inl, inr, ◌⊎◌, true≢false}
 use Rattle.tap_name.specs.Settings.{SettingsValue}
 use Rattle.tap_wire.specs.declared.fault.WireFault.{WireFault}
 use Rattle.tap_wire.specs.declared.frame.Frame.{Frame}
 use Rattle.tap_wire.specs.Reading.{frame_of}
 use Rattle.tap_rule.specs.Node.{settings_of}
 use Rattle.tap_rule.specs.Event.{Start}
+use Rattle.tap_rule.specs.Event.Event.{Starts, Takes}
+use Rattle.tap_rule.specs.Act.{act}
 use Rattle.tap_rule.specs.Strange.{is_own_name, is_strange}
 use Rattle.tap_node.specs.declared.fault.NodeFault.{NodeFault}
 use Rattle.tap_node.specs.declared.fault.NodeFault.TheVariants.{Wire, NotMine, Strange, NoMemory, Ended}
 use Rattle.tap_node.specs.declared.turn.Turn.{Turn}
-use Rattle.tap_node.specs.Node.{NodeValue}
-use Rattle.tap_node.specs.Outcome.{AnswersAs, Outcome, at_frame, at_read, start_outcome, take_outcome}
-use Rattle.tap_host.specs.Actor.{AreMetBelow, IsKept, below_given}
-use Rattle.tap_host.proofs.Met.{starts_met, takes_met}
+use Rattle.tap_node.specs.Node.{NodeValue, node_status, status_seen}
+use Rattle.tap_node.specs.Outcome.{AnswersAs, Outcome, acted_as, at_frame, at_read, refused_by, start_outcome, take_outcome}
+use Rattle.std.specs.Option.{is_none}
+use Rattle.std.proofs.lemmas.Bool.{leb-true}
+use Rattle.tap_cast.specs.Casts.{CastsValue, level_of_cast}
+use Rattle.tap_node.specs.declared.status.NodeStatus.TheVariants as seen
+use Rattle.tap_host_line.specs.declared.line.Start.{Start as StartLine}
+use Rattle.tap_host_line.specs.declared.line.Start.TheVariants as line
+use Rattle.tap_host.specs.Actor.{AreMetBelow, IsKept, IsUnmet, below_given, has_start, is_new}
+use Rattle.tap_host.proofs.CastsMet.{known_below, starts_met, takes_met}
 
 -- after an outcome the casts that were met are below the number
 abbrev pub OutcomeMet : ℕ → Outcome → Type 0
@@ -23,11 +31,10 @@ module _ (node : NodeValue) (below : ℕ) (met : node.ended ≡ false → AreMet
   by_frame : node.ended ≡ false → (frame : Frame) → OutcomeMet below (at_frame node frame)
   by_frame runs frame = by (is_own_name node.state frame.to) (is_strange node.state frame)
     where
-      acts = takes_met node.state below (met runs) frame
-
-      by : (own strange : Bool) → OutcomeMet below (cond own (cond strange _ _) _)
+      by : (own strange : Bool) → OutcomeMet below (cond own
+          (cond strange (refused_by node Strange) (acted_as node.state (act node.state (Takes frame)))) (refused_by node (NotMine frame.to)))
       by true true = met
-      by true false = λ _. acts
+      by true false = λ _. takes_met node.state below (met runs) frame
       by false strange = met
 
   by_read : node.ended ≡ false → (read : Result Frame WireFault) → OutcomeMet below (at_read node read)
@@ -37,14 +44,16 @@ module _ (node : NodeValue) (below : ℕ) (met : node.ended ≡ false → AreMet
   pub take_met : (bytes : List ℕ) → OutcomeMet below (take_outcome node bytes)
   take_met bytes = by node.ended refl
     where
-      by : (ended : Bool) → node.ended ≡ ended → OutcomeMet below (cond ended _ (at_read node (frame_of (settings_of node.state) bytes)))
+      by : (ended : Bool) → node.ended ≡ ended
+          → OutcomeMet below (cond ended (refused_by node Ended) (at_read node (frame_of (settings_of node.state) bytes)))
       by true is = met
       by false is = by_read is (frame_of (settings_of node.state) bytes)
 
   pub start_met : (start : Start) → OutcomeMet below (start_outcome node start)
   start_met start = by node.ended refl
     where
-      by : (ended : Bool) → node.ended ≡ ended → OutcomeMet below (cond ended _ _)
+      by : (ended : Bool) → node.ended ≡ ended
+          → OutcomeMet below (cond ended (refused_by node Ended) (acted_as node.state (act node.state (Starts start))))
       by true is = met
       by false is = λ _. starts_met node.state below (met is) start
 
@@ -71,3 +80,30 @@ kept_after p before after below outcome given kept met answers = record {
         (subst (λ (n : NodeValue). n.ended ≡ false → AreMetBelow (below_given below outcome.answer) n.state.casts) (sym node) met runs)
   ];
 }
+
+-- ---- starts
+
+-- a node that has a start takes steps
+pub runs_if : (node : NodeValue) (begun : StartLine) → has_start (node_status node) begun ≡ true → node.ended ≡ false
+runs_if node begun there = by node.ended there
+  where
+    by : (ended : Bool) → has_start (cond ended seen.Ended (status_seen node.state.status)) begun ≡ true → ended ≡ false
+    by true none = absurd (true≢false (sym none))
+    by false some = refl
+
+-- a cast with a number that is new wasn't met
+pub unmet_if : (below : ℕ) (casts : CastsValue) → AreMetBelow below casts → (begun : StartLine) → is_new below begun ≡ true → IsUnmet casts begun
+unmet_if below casts met (line.Cast number level word) new = by (level_of_cast casts number) refl
+  where
+    by : (kept : Option ℕ) → level_of_cast casts number ≡ kept → kept ≡ None
+    by None is = refl
+    by (Some k) is =
+        let low = known_below below number casts met (ap is_none is) in
+        let high = leb-true below number new in
+        absurd (omega (arith, low, high))
+unmet_if below casts met (line.Join via) new = tt
+unmet_if below casts met line.Abandon new = tt
+unmet_if below casts met (line.Publish object) new = tt
+unmet_if below casts met (line.Withdraw object) new = tt
+unmet_if below casts met (line.Find ticket object) new = tt
+unmet_if below casts met line.Leave new = tt

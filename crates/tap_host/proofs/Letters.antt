@@ -1,25 +1,16 @@
 -- The letters that await, after one more is sent and after one is acknowledged.
-use Rattle.std.proofs.Common.{◌≡◌, ℕ, ◌+◌, ◌≤◌, Bool, true, false, not, cond, List, [], ◌∷◌, ◌++◌, map, All, Option, Some, refl, sym, ap, ap₂, ◌∙◌, unwrap_or, arith, true≢false, if◌then◌else◌}
+use Rattle.std.proofs.Common.{◌≡◌, ℕ, ◌+◌, ◌≤◌, Bool, true, false, not, cond, List, [], ◌∷◌, ◌++◌, map, All, Option, None, Some, refl, sym, subst, ap, ap₂, ◌∙◌, unwrap_or, arith, true≢false, if◌then◌else◌}
 use Rattle.std.specs.List.{filter}
 use Rattle.std.specs.Map.{lookup}
 use Rattle.std.proofs.lemmas.List.Elements.{All-head, All-tail}
 use Rattle.tap_carry.specs.declared.outbox.Await.{Await}
-use Rattle.tap_carry.specs.Names.{is_same, is_same_way}
-use Rattle.tap_carry.specs.Outbox.{await_with, awaits_less, is_await}
-use Rattle.tap_host.specs.Mail.{Letter, frame_at, is_letter, letter_in}
-use Rattle.tap_host.proofs.Ways.{one_pair, same-turned}
+use Rattle.tap_carry.specs.Names.{is_same, is_same_way, number_of}
+use Rattle.tap_carry.specs.Outbox.{AreAwaiting, OutboxValue, SendsTo, acked_by, await_with, awaits_less, is_await, last_to}
+use Rattle.tap_host.specs.Mail.{AreUpdated, Letter, MailValue, frame_at, is_letter, letter_in, mail_acked, mail_seen, mail_sent}
+use Rattle.tap_host.proofs.Ways.{one_pair, pair-itself, same-turned}
 
 abbrev pub Frames : Type 0
 Frames = List ((List ℕ × ℕ) × List ℕ)
-
--- functions that answer alike are one
-pub one_function : {A B : Type 0} (f g : A → B) → ((x : A) → f x ≡ g x) → f ≡ g
-one_function f g h = λ i x. h x i
-
--- the frames have this at one receiver and number, and are else as they were
-abbrev pub AreUpdated : Frames → Frames → List ℕ → ℕ → Option (List ℕ) → Type 0
-AreUpdated before after to seq frame = (q : List ℕ × ℕ)
-    → lookup (is_same_way q) after ≡ cond (is_same_way (to, seq) q) frame (lookup (is_same_way q) before)
 
 module _ (before after : Frames) (to : List ℕ) (seq : ℕ) (frame : Option (List ℕ)) (updates : AreUpdated before after to seq frame) where
   pub frame_there : is_same to seq to seq ≡ true → frame_at after to seq ≡ unwrap_or frame []
@@ -61,13 +52,45 @@ pub letters_less : (before after : Frames) (from : List ℕ) (seq : ℕ)
     → ((item : Await) → is_same from seq item.to item.seq ≡ false → letter_in after item ≡ letter_in before item) → (awaits : List Await)
     → map (letter_in after) (awaits_less awaits from seq) ≡ filter (λ letter. not (is_letter from seq letter)) (map (letter_in before) awaits)
 letters_less before after from seq others [] = refl
-letters_less before after from seq others (item ∷ items) = by (is_await from seq item) refl
+letters_less before after from seq others (item ∷ items) =
+    by (is_await from seq item) refl (letters_less before after from seq others items)
   where
-    more = letters_less before after from seq others items
+    rest : List Letter
+    rest = filter (λ letter. not (is_letter from seq letter)) (map (letter_in before) items)
 
-    by : (same : Bool) → is_await from seq item ≡ same
+    by : (same : Bool) → is_await from seq item ≡ same → map (letter_in after) (awaits_less items from seq) ≡ rest
         → map (letter_in after) (cond (not same) (item ∷ awaits_less items from seq) (awaits_less items from seq))
-        ≡ cond (not same) (letter_in before item ∷ filter (λ letter. not (is_letter from seq letter)) (map (letter_in before) items))
-        (filter (λ letter. not (is_letter from seq letter)) (map (letter_in before) items))
-    by true is = more
-    by false is = ap₂ (λ (l : Letter) ls. l ∷ ls) (others item (same-turned from seq item.to item.seq ∙ is)) more
+        ≡ cond (not same) (letter_in before item ∷ rest) rest
+    by true is more = more
+    by false is more = ap₂ (λ (l : Letter) ls. l ∷ ls) (others item (same-turned from seq item.to item.seq ∙ is)) more
+
+-- ---- the mail
+
+abbrev pub mail_of : OutboxValue → Frames → MailValue
+mail_of box frames = record { letters = map (letter_in frames) box.awaits; last = box.last; sent = box.next }
+
+pub acked_mail : (box box' : OutboxValue) (before after : Frames) (from : List ℕ) (seq : ℕ) → box' ≡ acked_by box from seq
+    → AreUpdated before after from seq None → mail_seen (mail_of box' after) ≡ mail_acked (mail_seen (mail_of box before)) from seq
+acked_mail box box' before after from seq is updates =
+    ap (λ (b : OutboxValue). mail_seen (mail_of b after)) is
+    ∙ ap (λ (l : List Letter). record { letters = l; last = number_of box.last; sent = box.next })
+    (letters_less before after from seq (letter_other before after from seq None updates) box.awaits)
+
+map_push : (f : Await → Letter) (items : List Await) (item : Await) → map f (items ++ item ∷ []) ≡ map f items ++ f item ∷ []
+map_push f [] item = refl
+map_push f (first ∷ items) item = ap (λ l. f first ∷ l) (map_push f items item)
+
+pub sent_mail : (box box' : OutboxValue) (before after : Frames) (to : List ℕ) (seq number : ℕ) (frame : List ℕ) → AreAwaiting box
+    → number ≡ box.next → SendsTo box box' to number → seq ≡ last_to box to + 1 → AreUpdated before after to seq (Some frame)
+    → mail_seen (mail_of box' after) ≡ mail_sent (mail_seen (mail_of box before)) to frame
+sent_mail box box' before after to seq number frame valid is sends next updates =
+    let letter : Letter = record { to = to; seq = last_to box to + 1; frame = frame } in
+    let there : letter_in after (await_with to (last_to box to + 1) number) ≡ letter =
+    ap (λ f. record { to = to; seq = last_to box to + 1; frame = f })
+    (subst (λ n. frame_at after to n ≡ frame) next (frame_there before after to seq (Some frame) updates (pair-itself to seq))) in
+    let letters : map (letter_in after) box'.awaits ≡ map (letter_in before) box.awaits ++ letter ∷ [] =
+    ap (map (letter_in after)) sends.awaits
+    ∙ map_push (letter_in after) box.awaits (await_with to (last_to box to + 1) number)
+    ∙ ap₂ (λ (ls : List Letter) l. ls ++ l ∷ [])
+    (letters_kept before after to seq (Some frame) updates (last_to box) next box.awaits valid.given) there in
+    λ i. record { letters = letters i; last = λ x. sends.last x i; sent = (sends.next ∙ ap (λ n. n + 1) is) i }

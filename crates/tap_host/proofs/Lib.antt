@@ -1,5 +1,6 @@
+mod CastsMet
+mod Entering
 mod Kept
 mod Letters
-mod Met
 mod Steps
 mod Ways

@@ -208,7 +208,7 @@ host_line host number text = host_step host number (line_of_text (host_settings 
 -- ---- what a call does
 
 -- It adds the text of a step at the end, answers whether the next line is taken, and if it is, leaves what the step leaves.
-pub record TakesStep (step : Stepped) (new : HostSeen) (before after : List ℕ) (going : Going) : Type 0 where
+pub record TakesStep (step : Stepped) (new : HostSeen) (before after : List ℕ) (answer : Going) : Type 0 where
   pub text : after ≡ before ++ step.text
-  pub going : going ≡ step.going
+  pub going : answer ≡ step.going
   pub host : step.going ≡ On → new ≡ step.host

@@ -1,7 +1,7 @@
 -- The letters of a node: frames that it has sent, and that await their acknowledgement.
 --
 -- Rule: docs/PROTOCOL.md, "Packets".
-use Rattle.std.specs.Prelude.{ℕ, ◌+◌, not, if◌then◌else◌, Bool, List, [], ◌∷◌, ◌++◌, filter, Result, Ok, Err, unwrap_or}
+use Rattle.std.specs.Prelude.{◌≡◌, ℕ, ◌+◌, not, cond, if◌then◌else◌, Bool, List, [], ◌∷◌, ◌++◌, filter, Option, Result, Ok, Err, unwrap_or}
 use Rattle.std.specs.List.{flat_map}
 use Rattle.std.specs.Map.{lookup}
 use Rattle.tap_name.specs.Name.{Name}
@@ -40,6 +40,11 @@ empty_mail = record { letters = []; last = λ to. 0; sent = 0 }
 -- the bytes that are kept for a receiver and a number
 abbrev pub frame_at : List ((List ℕ × ℕ) × List ℕ) → Name → ℕ → List ℕ
 frame_at frames to seq = unwrap_or (lookup (is_same_way (to, seq)) frames) []
+
+-- the frames have this at one receiver and number, or none, and are else as they were
+abbrev pub AreUpdated : List ((List ℕ × ℕ) × List ℕ) → List ((List ℕ × ℕ) × List ℕ) → Name → ℕ → Option (List ℕ) → Type 0
+AreUpdated before after to seq frame = (q : List ℕ × ℕ)
+    → lookup (is_same_way q) after ≡ cond (is_same_way (to, seq) q) frame (lookup (is_same_way q) before)
 
 -- the letter of what awaits
 abbrev pub letter_in : List ((List ℕ × ℕ) × List ℕ) → Await → Letter

@@ -24,7 +24,7 @@ pub(crate) struct Actor {
 }
 
 impl Model for Actor {
-    ghost use Rattle.tap_host.specs.Actor.{ActorValue, IsActor};
+    ghost use Rattle.tap_host.specs.Actor.{ActorValue};
 
     ghost Value = { ActorValue };
 

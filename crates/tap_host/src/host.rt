@@ -1,4 +1,4 @@
-ghost use Rattle.std.specs.Prelude.{◌≡◌, ◌+◌, ◌≤◌, ◌++◌, [], length, Err, IfOk};
+ghost use Rattle.std.specs.Prelude.{◌≡◌, ◌≢◌, ◌+◌, ◌≤◌, ◌++◌, [], length, IfOk, OnOk};
 ghost use Rattle.tap_name.specs.Name.{IsName};
 ghost use Rattle.tap_rule.specs.Node.{joiner, settings_of};
 ghost use Rattle.tap_carry.specs.Outbox.{most_frames};
@@ -277,7 +277,7 @@ fn full(out: &mut Vec<u8>, number: u64) -> Result<Going, NoMemory>
 // Why a packet is refused whose frame a node doesn't take.
 fn why_of(fault: NodeFault) -> Result<Why, NoMemory>
     ensures why { IfOk result (λ why. why ≡ why_of fault) }
-    ensures memory { fault ≡ NodeFault.NoMemory → result ≡ Err NoMemory }
+    ensures told { OnOk result (fault ≢ NodeFault.NoMemory) }
 {
     match fault {
         NodeFault::Wire(_) => Ok(Why::Damaged),

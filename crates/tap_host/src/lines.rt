@@ -1,4 +1,5 @@
-ghost use Rattle.std.specs.Prelude.{◌≡◌, ◌==◌, ◌≤◌, [], ◌++◌, List, ℕ, length, take, drop, position, Ok, OnOk};
+ghost use Rattle.std.specs.Prelude.{◌≡◌, ◌≤◌, [], ◌++◌, List, ℕ, length, drop, Ok, OnOk};
+ghost use Rattle.memchr.specs.Find.{IsFirstByte, is_byte};
 ghost use Rattle.std.specs.Io.KnownBytes.{Consumes, IsAtEnd};
 
 use crate::memory::NoMemory;
@@ -66,8 +67,7 @@ impl Lines {
 
     // Lets go of what was taken.
     fn drop_taken(&mut self)
-        ensures value { self.new ≡ self.old }
-        ensures front { self.inside.at ≡ 0 }
+        ensures { self.new ≡ self.old }
     {
         let len = self.bytes.len();
         self.bytes.as_mut_slice().copy_within(self.at..len, 0);
@@ -78,7 +78,7 @@ impl Lines {
 
 // The place of the first end of a line.
 pub(crate) fn end_of_line(bytes: &[u8]) -> Option<usize>
-    ensures { result ≡ position (λ byte. byte == 10) bytes.now }
+    ensures { IsFirstByte (is_byte 10) bytes.now result }
 {
-    bytes.iter().position(|byte| *byte == b'\n')
+    memchr::memchr(b'\n', bytes)
 }

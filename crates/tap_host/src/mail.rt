@@ -1,8 +1,7 @@
-ghost use Rattle.std.specs.Prelude.{◌≡◌, ◌+◌, ◌<◌, ◌≤◌, ◌++◌, [], length, OnOk};
-ghost use Rattle.tap_name.specs.Settings.{SettingsValue};
+ghost use Rattle.std.specs.Prelude.{◌≡◌, ◌+◌, ◌<◌, ◌≤◌, ◌++◌, [], length, nat_le, None, OnOk, Some};
 ghost use Rattle.tap_carry.specs.Outbox.{most_frames};
 ghost use Rattle.tap_host_line.specs.Texts.{text_of_packet};
-ghost use Rattle.tap_host.specs.Mail.{empty_mail, mail_acked, mail_seen, mail_sent, posts, text_of_letters};
+ghost use Rattle.tap_host.specs.Mail.{AreUpdated, empty_mail, letter_in, mail_acked, mail_seen, mail_sent, posts, text_of_letters};
 
 use crate::memory::NoMemory;
 use indexmap::IndexMap;
@@ -85,21 +84,21 @@ impl Mail {
         requires { self.old.sent < most_frames }
         ensures mail { OnOk result (mail_seen self.new ≡ mail_sent (mail_seen self.old) to frame) }
         ensures text { OnOk result (out.new.items ≡ out.old.items
-            ++ text_of_packet to (mail_seen self.old .last to + 1) frame) }
+            ++ text_of_packet to ((mail_seen self.old).last to + 1) frame) }
     {
+        // Each frame that awaits has a number that was given before.
+        let _given = self.outbox.awaiting();
         let seq = self.outbox.send(to, self.outbox.next())?;
         put_packet(self.alloc, out, &to, seq, frame.as_slice())?;
-        let _ = self.frames.insert((to, seq), frame)?;
-        Ok(())
+        keep(&mut self.frames, to, seq, frame)
     }
 
     // Takes the acknowledgement of a number from its receiver.
     pub(crate) fn acked(&mut self, from: Name, seq: u32)
         ensures { mail_seen self.new ≡ mail_acked (mail_seen self.old) from seq }
     {
-        if self.outbox.acked(from, seq) {
-            let _ = self.frames.swap_remove(&(from, seq));
-        }
+        let _awaited = self.outbox.acked(from, seq);
+        forget(&mut self.frames, from, seq);
     }
 
     // Adds the line of a packet for each letter that awaits.
@@ -109,18 +108,38 @@ impl Mail {
         let mut awaits = Vec::new(self.alloc);
         self.outbox.gather(&mut awaits)?;
         for item in &awaits {
-            put_packet(self.alloc, out, &item.to, item.seq, self.frame_of(item))?;
+            put_packet(self.alloc, out, &item.to, item.seq, frame_of(&self.frames, item))?;
         }
         Ok(())
     }
+}
 
-    // The bytes of a frame that awaits.
-    fn frame_of(&self, item: &Await) -> &[u8]
-        ensures { result.now ≡ (letter_in self.inside.frames.entries item.now).frame }
-    {
-        match self.frames.get(&(item.to, item.seq)) {
-            Some(frame) => frame.as_slice(),
-            None => &[],
-        }
+// The bytes of a frame that awaits.
+fn frame_of<'a>(frames: &'a IndexMap<(Name, u32), Bytes>, item: &Await) -> &'a [u8]
+    ensures { result.now ≡ (letter_in frames.now.entries item.now).frame }
+{
+    match frames.get(&(item.to, item.seq)) {
+        Some(frame) => frame.as_slice(),
+        None => &[],
     }
+}
+
+// Keeps the bytes of a frame.
+fn keep(
+    frames: &mut IndexMap<(Name, u32), Bytes>,
+    to: Name,
+    seq: u32,
+    frame: Bytes,
+) -> Result<(), NoMemory>
+    ensures { OnOk result (AreUpdated frames.old.entries frames.new.entries to seq (Some frame)) }
+{
+    let _ = frames.insert((to, seq), frame)?;
+    Ok(())
+}
+
+// Lets go of the bytes of a frame, if they are there.
+fn forget(frames: &mut IndexMap<(Name, u32), Bytes>, to: Name, seq: u32)
+    ensures { AreUpdated frames.old.entries frames.new.entries to seq None }
+{
+    let _ = frames.swap_remove(&(to, seq));
 }

@@ -1,4 +1,5 @@
-ghost use Rattle.std.specs.Prelude.{◌≡◌, ◌==◌, position, Some};
+ghost use Rattle.std.specs.Prelude.{Some};
+ghost use Rattle.memchr.specs.Find.{IsFirstByte, is_byte};
 
 use crate::host::{Going, Host};
 use crate::lines::{Lines, end_of_line};
@@ -38,20 +39,17 @@ fn run_host<S: Source, K: Sink>(
     host: Host,
     source: &mut S,
     sink: &mut K,
-) -> HostStatus
-{
+) -> HostStatus {
     let mut run = Run {
         host,
         lines: Lines::new(alloc),
         number: 0,
         out: Vec::new(alloc),
     };
-    for _turn in 0..u64::MAX {
-        if let Some(status) = run.turn(source, sink) {
-            return status;
-        }
-    }
-    HostStatus::NoRoom
+    let status = run.to_end(source, sink);
+    // The memory of the node ends with the process, so nothing of it is given back piece by piece.
+    std::mem::forget(run);
+    status
 }
 
 // A node, what was read of its lines, how many it has taken, and the lines that the last one brought.
@@ -64,9 +62,18 @@ pub(crate) struct Run {
 }
 
 impl Run {
+    // Takes lines to the end.
+    fn to_end<S: Source, K: Sink>(&mut self, source: &mut S, sink: &mut K) -> HostStatus {
+        for _turn in 0..u64::MAX {
+            if let Some(status) = self.turn(source, sink) {
+                return status;
+            }
+        }
+        HostStatus::NoRoom
+    }
+
     // Takes the next line, or reads more; the status if it ends.
-    fn turn<S: Source, K: Sink>(&mut self, source: &mut S, sink: &mut K) -> Option<HostStatus>
-    {
+    fn turn<S: Source, K: Sink>(&mut self, source: &mut S, sink: &mut K) -> Option<HostStatus> {
         let bytes = self.lines.bytes();
         match end_of_line(bytes) {
             Some(len) => {
@@ -86,7 +93,7 @@ impl Run {
 
     // Takes the first line, of this length.
     fn take<K: Sink>(&mut self, len: usize, sink: &mut K) -> Option<HostStatus>
-        requires { position (λ byte. byte == 10) self.old.lines ≡ Some len }
+        requires { IsFirstByte (is_byte 10) self.old.lines (Some len) }
     {
         self.out.clear();
         self.number = self.number.saturating_add(1);
@@ -106,8 +113,7 @@ impl Run {
     }
 
     // Reads more.
-    fn read<S: Source>(&mut self, source: &mut S) -> Option<HostStatus>
-    {
+    fn read<S: Source>(&mut self, source: &mut S) -> Option<HostStatus> {
         match self.lines.read_more(source) {
             Ok(Got::Got(_)) => None,
             Ok(Got::Failed) => Some(HostStatus::ReadFault),

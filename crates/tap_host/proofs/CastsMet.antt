@@ -11,10 +11,11 @@ use Rattle.std.proofs.lemmas.List.Elements.{All-nil, All-head, All-tail}
 use Rattle.std.proofs.lemmas.Map.Views.{All-keys-insert_entry}
 use Rattle.std.proofs.lemmas.Map.Lookups.{exact_unsigned}
 use Rattle.tap_table.specs.Table.{TableValue}
-use Rattle.tap_table.specs.Levels.{is_kept}
+use Rattle.tap_table.specs.Levels.{is_kept, sent_from}
 use Rattle.tap_cast.specs.declared.casts.CastTurn.{CastTurn}
 use Rattle.tap_cast.specs.declared.casts.CastTurn.TheVariants.{Already, Now}
 use Rattle.tap_cast.specs.declared.target.CastTarget.{CastTarget}
+use Rattle.tap_cast.specs.Targets.{cast_targets}
 use Rattle.tap_cast.specs.Casts.{CastsValue, level_of_cast, turn_of, with_cast}
 use Rattle.tap_wire.specs.declared.frame.Frame.{Frame}
 use Rattle.tap_rule.specs.Node.{NodeState, Status}
@@ -22,7 +23,7 @@ use Rattle.tap_rule.specs.Event.{Acted, News, Start}
 use Rattle.tap_rule.specs.Event.Event.{Starts, Takes}
 use Rattle.tap_rule.specs.Event.News.{Nothing, Core, Gone, Answered, Cast}
 use Rattle.tap_rule.specs.Reaction.{Reaction}
-use Rattle.tap_rule.specs.Casts.{Copy, cast_news}
+use Rattle.tap_rule.specs.Casts.{Copy, cast_news, is_root}
 use Rattle.tap_rule.specs.Act.{act}
 use Rattle.tap_rule.specs.RuleLaws.{IsCarriedOut}
 use Rattle.tap_rule.proofs.Cases.{Cause, RuleCase}
@@ -53,18 +54,17 @@ equal_of Equal is = refl
 equal_of Greater is = absurd (true≢false (sym is))
 
 -- a cast that was met is below it
-known_below : (below cast : ℕ) (casts : CastsValue) → AreMetBelow below casts → is_none (level_of_cast casts cast) ≡ false → cast < below
+pub known_below : (below cast : ℕ) (casts : CastsValue) → AreMetBelow below casts → is_none (level_of_cast casts cast) ≡ false → cast < below
 known_below below cast [] met known = absurd (true≢false known)
-known_below below cast (e ∷ es) met known = by (is_eq (nat_cmp cast e.0)) refl
+known_below below cast (e ∷ es) met known =
+    by (is_eq (nat_cmp cast e.0)) refl (λ more. known_below below cast es (All-tail (λ other. other < below) e.0 (keys_of es) met) more)
   where
-    by : (same : Bool) → is_eq (nat_cmp cast e.0) ≡ same → cast < below
-    by true is =
+    by : (same : Bool) → is_eq (nat_cmp cast e.0) ≡ same → (is_none (level_of_cast es cast) ≡ false → cast < below) → cast < below
+    by true is others =
         let one : cast ≡ e.0 = exact_unsigned cast e.0 (equal_of (nat_cmp cast e.0) is) in
         let least : e.0 < below = All-head (λ other. other < below) e.0 (keys_of es) met in
         omega (arith, one, least)
-    by false is =
-        known_below below cast es (All-tail (λ other. other < below) e.0 (keys_of es) met)
-        (ap (λ b. is_none (cond b (Some e.1) (level_of_cast es cast))) (sym is) ∙ known)
+    by false is others = others (ap (λ b. is_none (cond b (Some e.1) (level_of_cast es cast))) (sym is) ∙ known)
 
 -- a cast is met
 met_more : (below : ℕ) (casts : CastsValue) (cast level : ℕ) → AreMetBelow below casts → cast < below → AreMetBelow below (with_cast casts cast level)
@@ -83,17 +83,27 @@ is_first casts t cast level first targets turn = by (is_kept (level_of_cast cast
     first_of Already = false
     first_of (Now anew others) = anew
 
+    turn_if : Bool → CastTurn
+    turn_if kept =
+        cond kept Already (Now (is_none (level_of_cast casts cast)) (cast_targets t level (sent_from t.settings.digits (level_of_cast casts cast))))
+
     by : (kept : Bool) → is_kept (level_of_cast casts cast) level ≡ kept → is_none (level_of_cast casts cast) ≡ first
-    by true is = absurd (let bad : Already ≡ Now first targets = ap (λ b. cond b Already (Now (is_none (level_of_cast casts cast)) _)) (sym is) ∙ turn in cc)
-    by false is = ap first_of (ap (λ b. cond b Already (Now (is_none (level_of_cast casts cast)) _)) (sym is) ∙ turn)
+    by true is = absurd (let bad : Already ≡ Now first targets = ap turn_if (sym is) ∙ turn in cc)
+    by false is = ap first_of (ap turn_if (sym is) ∙ turn)
+
+-- what a rule leaves
+record RuleMet (below : ℕ) (r : Reaction) : Type 0 where
+  met : AreMetBelow (raised below r.news) r.state.casts
 
 module _ (node : NodeState) (below : ℕ) (met : AreMetBelow below node.casts) where
   abbrev pub RaisesTo : News → CastsValue → Type 0
   RaisesTo news casts = AreMetBelow (raised below news) casts
 
   -- casts that stay
-  stays : (news : News) (casts : CastsValue) → casts ≡ node.casts → RaisesTo news casts
-  stays news casts same = subst (RaisesTo news) (sym same) (higher below (raised below news) node.casts (at_least below news) met)
+  stays : (r : Reaction) → r.state.casts ≡ node.casts → RuleMet below r
+  stays r same = record {
+    met = subst (RaisesTo r.news) (sym same) (higher below (raised below r.news) node.casts (at_least below r.news) met);
+  }
 
   -- a cast is sent on
   sent_on : (copy : Copy) (closed first : Bool) → is_none (level_of_cast node.casts copy.cast) ≡ first
@@ -106,13 +116,16 @@ module _ (node : NodeState) (below : ℕ) (met : AreMetBelow below node.casts) w
       (at_least below (cast_news copy.cast false closed))
       (met_more below node.casts copy.cast copy.level met (known_below below copy.cast node.casts met is))
 
-  rule_met : {status : Status} {cause : Cause} {r : Reaction} → RuleCase node status cause r → RaisesTo r.news r.state.casts
-  rule_met (HasCeased given_up) = All-nil (λ cast. cast < below)
-  rule_met (IsGoneNow {leaving = leaving} parting none) = All-nil (λ cast. cast < below)
-  rule_met (CastsAlone {copy = copy} {first = first} of is) = sent_on copy _ first (is_first node.casts node.ties.table copy.cast copy.level first [] is)
-  rule_met (CastsOn {copy = copy} {first = first} {target = target} {targets = targets} of is) =
-      sent_on copy false first (is_first node.casts node.ties.table copy.cast copy.level first (target ∷ targets) is)
-  rule_met _ = stays _ _ refl
+  rule_met : {status : Status} {cause : Cause} {r : Reaction} → RuleCase node status cause r → RuleMet below r
+  rule_met (HasCeased given_up) = record { met = All-nil (λ cast. cast < below) }
+  rule_met (IsGoneNow parting none) = record { met = All-nil (λ cast. cast < below) }
+  rule_met (CastsAlone {copy = copy} {first = first} of is) = record {
+    met = sent_on copy (is_root copy.parent) first (is_first node.casts node.ties.table copy.cast copy.level first [] is);
+  }
+  rule_met (CastsOn {copy = copy} {first = first} {target = target} {targets = targets} of is) = record {
+    met = sent_on copy false first (is_first node.casts node.ties.table copy.cast copy.level first (target ∷ targets) is);
+  }
+  rule_met _ = stays _ refl
 
   -- what a step leaves
   abbrev pub ActsMet : Acted → Type 0
@@ -120,7 +133,7 @@ module _ (node : NodeState) (below : ℕ) (met : AreMetBelow below node.casts) w
 
   carried : {cause : Cause} (r : Reaction) (acted : Acted) → RuleCase node node.status cause r → IsCarriedOut node r acted → ActsMet acted
   carried r acted case out =
-      subst (λ news. RaisesTo news acted.state.casts) (sym out.news) (subst (RaisesTo r.news) (sym out.casts) (rule_met case))
+      subst (λ news. RaisesTo news acted.state.casts) (sym out.news) (subst (RaisesTo r.news) (sym out.casts) ((rule_met case).met))
 
   pub takes_met : (frame : Frame) → ActsMet (act node (Takes frame))
   takes_met frame = each_take node ActsMet met frame met (λ fit r acted case out. carried r acted case out)
