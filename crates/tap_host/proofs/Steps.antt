@@ -110,7 +110,7 @@ told_after host now turn before front between after going is takes =
     let p = host_settings host in
     let news = text_of_news turn.news in
     let same : posts p (host.mail, between ++ news) turn.sent
-        ≡ ((posts p (host.mail, front ++ news) turn.sent).0, before ++ (posts p (host.mail, front ++ news) turn.sent).1) =
+    ≡ ((posts p (host.mail, front ++ news) turn.sent).0, before ++ (posts p (host.mail, front ++ news) turn.sent).1) =
     ap (λ t. posts p (host.mail, t ++ news) turn.sent) is
     ∙ ap (λ t. posts p (host.mail, t) turn.sent) (append_assoc before front news)
     ∙ posts_after p host.mail before (front ++ news) turn.sent in

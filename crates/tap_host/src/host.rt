@@ -69,12 +69,7 @@ impl Host {
     /// Takes the line of this number, and adds the lines that it brings at the end of `out`.
     ///
     /// `NoMemory` ends it: it takes no line any more.
-    pub fn line(
-        &mut self,
-        out: &mut Vec<u8>,
-        number: u64,
-        text: &[u8],
-    ) -> Result<Going, NoMemory>
+    pub fn line(&mut self, out: &mut Vec<u8>, number: u64, text: &[u8]) -> Result<Going, NoMemory>
         ensures { IfOk result (TakesStep (host_line (host_seen self.old) number text.now)
             (host_seen self.new) out.old.items out.new.items) }
     {
@@ -85,12 +80,7 @@ impl Host {
     }
 
     // Takes a line.
-    fn take_line(
-        &mut self,
-        out: &mut Vec<u8>,
-        number: u64,
-        line: &Line,
-    ) -> Result<Going, NoMemory>
+    fn take_line(&mut self, out: &mut Vec<u8>, number: u64, line: &Line) -> Result<Going, NoMemory>
         requires { IsLine (host_settings (host_seen self.old)) line.now }
         ensures { IfOk result (TakesStep (step_of (host_seen self.old) number line.now)
             (host_seen self.new) out.old.items out.new.items) }
@@ -138,12 +128,7 @@ impl Host {
     }
 
     // The node begins a start, if its status has it.
-    fn start(
-        &mut self,
-        out: &mut Vec<u8>,
-        number: u64,
-        start: &Start,
-    ) -> Result<Going, NoMemory>
+    fn start(&mut self, out: &mut Vec<u8>, number: u64, start: &Start) -> Result<Going, NoMemory>
         requires { IsStart (host_settings (host_seen self.old)) start.now }
         ensures { IfOk result (TakesStep (at_start (host_seen self.old) number start.now)
             (host_seen self.new) out.old.items out.new.items) }
@@ -233,8 +218,7 @@ impl Host {
         put_news(out, &turn.news)?;
         self.begun = true;
         let settings = self.actor.settings();
-        self.mail
-            .send_all(out, &settings, turn.sent.into_frames())?;
+        self.mail.send_all(out, &settings, turn.sent.into_frames())?;
         Ok(Going::On)
     }
 

@@ -1,7 +1,10 @@
 //! A node as a process: a node with its outbox and its inbox, which takes lines and gives lines, and its run over a source and a sink.
 //!
-//! [`Host`] is the node under a carrier: each line in makes one step of it, and the lines out are added to a vector. [`run_node`] is all that
-//! a program needs: it reads the words, then line after line of a source, and writes what each brings to a sink before it reads the next.
+//! [`Host`] is the node under a carrier: each line in makes one step of it, and the lines out are added to a vector. What [`Host::line`] adds and
+//! leaves is proved: it is a function of the line and of what went before, by the rule of a node and the words of the carrier.
+//!
+//! [`run_node`] is all that a program needs: it reads the words, then line after line of a source, and writes what each brings to a sink before it
+//! reads the next. Of it no clause says more than that it is safe and returns: that it takes each line once, in order, is tested alone.
 #![tactic(auto)]
 
 mod actor;

@@ -108,7 +108,13 @@ impl Mail {
         let mut awaits = Vec::new(self.alloc);
         self.outbox.gather(&mut awaits)?;
         for item in &awaits {
-            put_packet(self.alloc, out, &item.to, item.seq, frame_of(&self.frames, item))?;
+            put_packet(
+                self.alloc,
+                out,
+                &item.to,
+                item.seq,
+                frame_of(&self.frames, item),
+            )?;
         }
         Ok(())
     }

@@ -10,15 +10,12 @@ mod line;
 mod memory;
 mod put;
 mod reading;
-
 mod verb;
 mod why;
 
 pub use asked::{Asked, WordsRefusal, read_words};
 pub use line::{Line, Start};
 pub use memory::NoMemory;
-pub use put::{
-    put_ack, put_begun, put_count, put_news, put_packet, put_refused, put_status,
-};
+pub use put::{put_ack, put_begun, put_count, put_news, put_packet, put_refused, put_status};
 pub use reading::read_line;
 pub use why::Why;

@@ -142,12 +142,7 @@ fn put_server(out: &mut Vec<u8>, server: &Option<Name>) -> Result<(), NoMemory>
 }
 
 // Adds the lines of the news of a cast.
-fn put_cast(
-    out: &mut Vec<u8>,
-    cast: u32,
-    reached: bool,
-    closed: bool,
-) -> Result<(), NoMemory>
+fn put_cast(out: &mut Vec<u8>, cast: u32, reached: bool, closed: bool) -> Result<(), NoMemory>
     ensures { OnOk result (out.new.items ≡ out.old.items
         ++ ((if reached then codes "reached " ++ decimal cast ++ codes "\n" else [])
         ++ (if closed then codes "closed " ++ decimal cast ++ codes "\n" else []))) }

@@ -21,11 +21,7 @@ const MOST_FRAMES: u64 = 4_000_000_000;
 /// settings, written digit by digit, and its numbers are decimal, with no sign and no leading zero.
 ///
 /// Rule: docs/NETWORK.md, "Lines".
-pub fn read_line(
-    alloc: Global,
-    settings: &Settings,
-    text: &[u8],
-) -> Result<Option<Line>, NoMemory>
+pub fn read_line(alloc: Global, settings: &Settings, text: &[u8]) -> Result<Option<Line>, NoMemory>
     ensures value { IfOk result (λ line. line ≡ line_of_text settings.now text.now) }
     ensures valid { IfOk result (λ line. IfSome line (IsLine settings.now)) }
 {
