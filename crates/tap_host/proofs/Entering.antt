@@ -2,7 +2,7 @@
 use Rattle.std.proofs.Common.{◌≡◌, ℕ, Bool, true, false, not, ◌&&◌, ◌||◌, cond, List, refl, sym, ap, ap₂, subst, ◌∙◌, true≢false}
 use Rattle.tap_carry.specs.Inbox.{InboxValue, has_arrived, has_pair}
 use Rattle.tap_carry.specs.Names.{is_same}
-use Rattle.tap_host.specs.Intake.{IntakeValue, IsIntake, has_taken}
+use Rattle.tap_host.specs.Intake.{IsIntake}
 use Rattle.tap_host.proofs.Ways.{one_pair}
 
 abbrev pub Pairs : Type 0

@@ -91,6 +91,19 @@ runs_if node begun there = by node.ended there
     by true none = absurd (true≢false (sym none))
     by false some = refl
 
+-- a start of a node that takes steps is refused by nothing but want of memory
+pub start_wants : (node after : NodeValue) (begun : Start) (given : Result Turn NodeFault) (cause : NodeFault) → node.ended ≡ false
+    → AnswersAs (start_outcome node begun) node given after → given ≡ Err cause → cause ≡ NoMemory
+start_wants node after begun given cause runs answers is = elim (is_memory given) [
+  | inl memory ↦ let same = sym is ∙ memory in cc
+  | inr other ↦ absurd (by node.ended runs (sym is ∙ answers.answer other))
+]
+  where
+    by : (ended : Bool) → ended ≡ false
+        → Err cause ≡ (cond ended (refused_by node Ended) (acted_as node.state (act node.state (Starts begun)))).answer → ⊥
+    by true ends same = true≢false ends
+    by false ends same = cc
+
 -- a cast with a number that is new wasn't met
 pub unmet_if : (below : ℕ) (casts : CastsValue) → AreMetBelow below casts → (begun : StartLine) → is_new below begun ≡ true → IsUnmet casts begun
 unmet_if below casts met (line.Cast number level word) new = by (level_of_cast casts number) refl

@@ -1,5 +1,5 @@
 -- The letters that await, after one more is sent and after one is acknowledged.
-use Rattle.std.proofs.Common.{◌≡◌, ℕ, ◌+◌, ◌≤◌, Bool, true, false, not, cond, List, [], ◌∷◌, ◌++◌, map, All, Option, None, Some, refl, sym, subst, ap, ap₂, ◌∙◌, unwrap_or, arith, true≢false, if◌then◌else◌}
+use Rattle.std.proofs.Common.{◌≡◌, ℕ, ◌+◌, ◌≤◌, Bool, true, false, not, cond, List, [], ◌∷◌, ◌++◌, map, All, Option, None, Some, refl, subst, ap, ap₂, ◌∙◌, unwrap_or, arith}
 use Rattle.std.specs.List.{filter}
 use Rattle.std.specs.Map.{lookup}
 use Rattle.std.proofs.lemmas.List.Elements.{All-head, All-tail}

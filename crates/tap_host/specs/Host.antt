@@ -3,7 +3,7 @@
 -- A line: `host_line`, then `host_step`, then what stands there for its kind. A start and a packet go on with `after_step`.
 --
 -- Rule: docs/NETWORK.md, "Lines".
-use Rattle.std.specs.Prelude.{◌≡◌, ℕ, ◌+◌, ◌||◌, nat_le, not, Bool, true, false, if◌then◌else◌, List, [], ◌∷◌, ◌++◌, length, Option, None, Some, Result, Ok, Err, codes}
+use Rattle.std.specs.Prelude.{◌≡◌, ℕ, ◌+◌, ◌||◌, nat_le, not, Bool, true, false, if◌then◌else◌, List, [], ◌++◌, length, Option, None, Some, Result, Ok, Err, codes}
 use Rattle.tap_name.specs.Name.{Name}
 use Rattle.tap_name.specs.Names.{has_name}
 use Rattle.tap_name.specs.Settings.{SettingsValue}

@@ -10,7 +10,7 @@ ghost use Rattle.tap_host.specs.Host.{HostSeen, TakesStep, at_head, at_members, 
 use crate::actor::Actor;
 use crate::intake::Intake;
 use crate::mail::Mail;
-use crate::memory::NoMemory;
+use crate::memory::{NoMemory, only_memory};
 use std::alloc::Global;
 use std::marker::Model;
 use tap_host_line::{
@@ -27,7 +27,7 @@ use tap_wire::decode_head;
 pub enum Going {
     /// It takes the next line.
     On,
-    /// It has no room for one more step, and takes no line any more.
+    /// It has no room for one more step: no further line is to be handed in.
     Full,
 }
 
@@ -53,6 +53,8 @@ impl Model for Host {
 
 impl Host {
     /// A node that starts to join, with nothing sent or taken. Its name is one of the settings.
+    ///
+    /// Rule: docs/NETWORK.md, "The process of a node".
     pub fn joiner(alloc: Global, settings: &Settings, name: Name) -> Result<Host, NoMemory>
         requires { IsName settings.now name }
         ensures { IfOk result (λ host. host_seen host ≡ new_host (running (joiner settings.now name))) }
@@ -68,7 +70,9 @@ impl Host {
 
     /// Takes the line of this number, and adds the lines that it brings at the end of `out`.
     ///
-    /// `NoMemory` ends it: it takes no line any more.
+    /// After `NoMemory` no further line is to be handed in, and what `out` then has isn't said.
+    ///
+    /// Rule: docs/NETWORK.md, "Lines".
     pub fn line(&mut self, out: &mut Vec<u8>, number: u64, text: &[u8]) -> Result<Going, NoMemory>
         ensures { IfOk result (TakesStep (host_line (host_seen self.old) number text.now)
             (host_seen self.new) out.old.items out.new.items) }
@@ -142,8 +146,9 @@ impl Host {
         if !self.actor.node().room() {
             return full(out, number);
         }
-        let Ok(turn) = self.actor.begin(start) else {
-            return Err(NoMemory);
+        let turn = match self.actor.begin(start) {
+            Ok(turn) => turn,
+            Err(fault) => return Err(only_memory(fault)),
         };
         if !self.mail.has_room(turn.sent.len()) {
             return full(out, number);
@@ -267,7 +272,8 @@ fn why_of(fault: NodeFault) -> Result<Why, NoMemory>
         NodeFault::Wire(_) => Ok(Why::Damaged),
         NodeFault::NotMine(_) => Ok(Why::Foreign),
         NodeFault::Strange => Ok(Why::Strange),
-        NodeFault::NoMemory | NodeFault::Ended => Err(NoMemory),
+        NodeFault::Ended => Ok(Why::Room),
+        NodeFault::NoMemory => Err(NoMemory),
     }
 }
 

@@ -1,6 +1,9 @@
+ghost use Rattle.std.specs.Prelude.{◌≡◌};
+
 use std::alloc::{AllocError, AllocFailed};
 use std::error::Error;
 use std::fmt;
+use tap_node::NodeFault;
 
 /// Memory was refused.
 ///
@@ -43,5 +46,17 @@ impl From<tap_host_line::NoMemory> for NoMemory {
 impl From<tap_node::NoMemory> for NoMemory {
     fn from(_: tap_node::NoMemory) -> NoMemory {
         NoMemory
+    }
+}
+
+// The fault of a node that has no other: memory was refused to it.
+pub(crate) fn only_memory(fault: NodeFault) -> NoMemory
+    requires { fault ≡ NodeFault.NoMemory }
+{
+    match fault {
+        NodeFault::NoMemory => NoMemory,
+        NodeFault::Wire(_) | NodeFault::NotMine(_) | NodeFault::Strange | NodeFault::Ended => {
+            unreachable!()
+        }
     }
 }

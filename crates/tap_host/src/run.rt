@@ -29,7 +29,7 @@ pub fn run_node<S: Source, K: Sink>(
     };
     match Host::joiner(alloc, &asked.settings, asked.name) {
         Ok(host) => run_host(alloc, host, source, sink),
-        Err(_) => HostStatus::NoMemory,
+        Err(NoMemory) => HostStatus::NoMemory,
     }
 }
 

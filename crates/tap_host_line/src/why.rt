@@ -1,14 +1,14 @@
 ghost use Rattle.std.specs.Prelude.{◌≡◌};
 ghost use Rattle.tap_host_line.specs.Texts.{word_of_why};
 
-/// Why a line in wasn't taken. It has changed nothing.
+/// Why a line in wasn't taken. But for `Room` it has changed nothing.
 ///
 /// Rule: docs/NETWORK.md, "Lines".
 #[derive(Clone, Copy, Debug, PartialEq, Eq)]
 pub enum Why {
     /// The text is no line.
     Line,
-    /// Members were named after another line was taken.
+    /// Members came after a start, a packet or other members were taken.
     Late,
     /// The node isn't among the members.
     Stranger,

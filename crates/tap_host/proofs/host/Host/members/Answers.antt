@@ -1,4 +1,4 @@
-use Rattle.std.proofs.Common.{◌≡◌, ◌∙◌, true, false, Bool, List, ℕ, refl, sym, ap}
+use Rattle.std.proofs.Common.{◌≡◌, ◌∙◌, true, false, refl, sym, ap}
 use Rattle.tap_name.specs.Names.{has_name}
 use Rattle.tap_rule.specs.Node.{name_of, settings_of, member_at_rest}
 use Rattle.tap_node.specs.Node.{NodeValue, running}
@@ -6,7 +6,7 @@ use Rattle.tap_host_line.specs.declared.why.Why.TheVariants as why
 use Rattle.tap_host_line.specs.Texts.{text_of_begun}
 use Rattle.tap_host.specs.Intake.{has_taken}
 use Rattle.tap_host.specs.Mail.{mail_seen}
-use Rattle.tap_host.proofs.Steps.{goes_as, members_join, members_late, members_strange, refuses_as, seen_host}
+use Rattle.tap_host.proofs.Steps.{goes_as, members_join, members_late, members_strange, refuses_as}
 use Rattle.tap_host.proofs.host.Host.members.Goals as goal
 
 pub returns-then-self : goal.returns-then-self

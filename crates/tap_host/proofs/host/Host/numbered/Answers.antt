@@ -1,11 +1,11 @@
-use Rattle.std.proofs.Common.{◌≡◌, ◌∙◌, ◌+◌, true, false, length, refl, sym, ap}
+use Rattle.std.proofs.Common.{◌≡◌, ◌∙◌, ◌+◌, true, false, length, sym, ap}
 use Rattle.std.specs.Prelude.{nat_le}
 use Rattle.tap_carry.specs.Outbox.{most_frames}
 use Rattle.tap_host_line.specs.Texts.{text_of_ack}
 use Rattle.tap_node.specs.Node.{has_room_left}
 use Rattle.tap_node.specs.Outcome.{take_outcome}
 use Rattle.tap_host.specs.Actor.{below_given}
-use Rattle.tap_host.specs.Host.{refused, with_node, with_taken, why_of}
+use Rattle.tap_host.specs.Host.{refused, with_node, with_taken}
 use Rattle.tap_host.specs.Intake.{has_taken}
 use Rattle.tap_host.specs.Mail.{mail_seen}
 use Rattle.tap_host.proofs.Entering.{not_false, not_true}

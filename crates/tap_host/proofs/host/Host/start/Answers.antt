@@ -8,6 +8,7 @@ use Rattle.tap_node.specs.Outcome.{start_outcome}
 use Rattle.tap_host.specs.Actor.{below_given, has_start, is_new, start_of}
 use Rattle.tap_host.specs.Host.{with_node}
 use Rattle.tap_host.specs.Intake.{has_taken}
+use Rattle.tap_host.proofs.Kept.{runs_if, start_wants}
 use Rattle.tap_host.proofs.Steps.{acted_host, after_full, after_turn, fills_as, refuses_as, seen_host, start_full, start_none, start_old, start_steps, tells_as, turn_answer}
 use Rattle.tap_host.proofs.host.Host.start.Goals as goal
 
@@ -54,6 +55,13 @@ returns-then-not-room c =
     ap has_room_left (sym c.node.ensures) ∙ sym c.room.ensures ∙ c.if-not-room.true in
     rw (← c.self.view_is)
     (fills_as c.full.result _ _ _ _ h number (start_full a m i0 b number start there new room) c.full.ensures)
+
+pub only_memory-requires : goal.only_memory-requires
+only_memory-requires c =
+    let node = c.self.inside.actor.node in
+    let there : has_start (node_status node) c.args.start.now ≡ true = sym c.has_start.ensures ∙ c.if-not-has_start.false in
+    start_wants node c.begin.new.self.node (start_of c.args.start.now) c.begin.result c.in-Err.fault (runs_if node c.args.start.now there)
+    c.begin.ensures.node c.in-Err.is
 
 pub returns-then-not-has_room : goal.returns-then-not-has_room
 returns-then-not-has_room c =

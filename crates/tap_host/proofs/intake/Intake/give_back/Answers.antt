@@ -1,5 +1,4 @@
 use Rattle.std.proofs.Common.{◌≡◌, true, subst, sym}
-use Rattle.tap_carry.specs.Inbox.{has_arrived}
 use Rattle.tap_host.specs.Intake.{IntakeValue, has_taken}
 use Rattle.tap_host.proofs.Entering.{back_kept, given_back, taken_arrived}
 use Rattle.tap_host.proofs.intake.Intake.give_back.Goals as goal

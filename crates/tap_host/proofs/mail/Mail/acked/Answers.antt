@@ -1,4 +1,3 @@
-use Rattle.std.proofs.Common.{◌≡◌}
 use Rattle.tap_host.proofs.Letters.{acked_mail}
 use Rattle.tap_host.proofs.mail.Mail.acked.Goals as goal
 

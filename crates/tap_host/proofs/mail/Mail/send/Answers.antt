@@ -1,4 +1,3 @@
-use Rattle.std.proofs.Common.{◌≡◌}
 use Rattle.std.proofs.lemmas.Result.{on_ok_weaker}
 use Rattle.tap_host.proofs.Letters.{sent_mail}
 use Rattle.tap_host.proofs.mail.Mail.send.Goals as goal
