@@ -1,3 +1,4 @@
+mod Alike
 mod Arrays
 mod Bytes
 mod Casts

@@ -6,7 +6,7 @@ ghost use Rattle.tap_scenario.specs.Step.{IsStep, one_name, two_names, one_numbe
 use crate::cast::{Prefix, Word};
 use crate::kind::{FROM, Kind, MIXED, NEWEST, NameKind, PairKind, PlaceKind, TO};
 use crate::number::read_number;
-use crate::words::Words;
+use crate::words::{Words, text_after};
 use tap_name::{Name, Settings, read_name};
 
 // The greatest place.
@@ -215,7 +215,7 @@ fn read_pair(settings: &Settings, kind: PairKind, words: Words<'_>) -> Option<St
 {
     let text = words.text()?;
     let (first, others) = text.split_at_checked(settings.digits() as usize)?;
-    let second = others.strip_prefix(kind.between().as_bytes())?;
+    let second = text_after(others, kind.between().as_bytes())?;
     let Ok(first) = read_name(settings, first) else {
         return None;
     };

@@ -1,4 +1,4 @@
-ghost use Rattle.std.specs.Prelude.{◌≡◌, ◌==◌, ◌+◌, ◌≤◌, [], ◌∷◌, position, MatchOption, IfSome, option_copied, option_map};
+ghost use Rattle.std.specs.Prelude.{◌≡◌, ◌==◌, ◌+◌, ◌≤◌, [], ◌∷◌, true, false, length, take, drop, bytes_eq, position, MatchOption, IfSome, option_copied, option_map};
 ghost use Rattle.tap_scenario.specs.Step.{one_number, two_numbers, only};
 ghost use Rattle.tap_scenario.specs.Words.{words, words_left, words_around};
 
@@ -29,6 +29,34 @@ fn first_space(text: &[u8]) -> Option<usize>
     ensures { result ≡ position (λ byte. byte == 32) text.now }
 {
     text.iter().position(|byte| *byte == b' ')
+}
+
+// Whether two short texts are the same, byte by byte.
+fn is_same(one: &[u8], other: &[u8]) -> bool
+    ensures { result ≡ bytes_eq one.now other.now }
+{
+    if one.len() != other.len() {
+        return false;
+    }
+    for at in 0..one.len() {
+        if one[at] != other[at] {
+            return false;
+        }
+    }
+    true
+}
+
+// What stands after a short text at the beginning of another one, if it stands there.
+pub(crate) fn text_after<'a>(text: &'a [u8], short: &[u8]) -> Option<&'a [u8]>
+    ensures cases { MatchOption result (bytes_eq (take (length short.now) text.now) short.now ≡ false)
+        (λ rest. (bytes_eq (take (length short.now) text.now) short.now ≡ true) × (rest.now ≡ drop (length short.now) text.now)) }
+{
+    let (front, rest) = text.split_at_checked(short.len())?;
+    if is_same(front, short) {
+        Some(rest)
+    } else {
+        None
+    }
 }
 
 impl<'a> Words<'a> {
