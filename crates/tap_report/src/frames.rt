@@ -18,6 +18,12 @@ const MOST_BEFORE_BYTES: usize = 106;
 // The most bytes of the line of a frame that is taken: a word, a number, and the end of the line.
 const MOST_OF_TAKEN: usize = 17;
 
+// The same of the line of a packet that is made, which has two words and two numbers.
+const MOST_OF_PACKET: usize = 34;
+
+// And of the line of a packet that arrives or is lost.
+const MOST_OF_ARRIVED: usize = 19;
+
 // How many bytes are encoded at once.
 const PIECE: usize = 64;
 
@@ -205,9 +211,26 @@ impl Printer {
         ensures { Prints (K.state sink.old) (K.state sink.new)
             (line (packet_line packet frame ack)) self.old self.new }
     {
-        self.add_number_after(sink, b"packet ", packet);
-        self.add_number_after(sink, packet_word(ack), frame);
-        self.end_line(sink);
+        self.make_room(sink, MOST_OF_PACKET);
+        self.push(b"packet ");
+        self.push_u32(packet);
+        self.push_packet_word(ack);
+        self.push_u32(frame);
+        self.push(b"\n");
+    }
+
+    // Adds what a packet carries.
+    #[inline(always)]
+    fn push_packet_word(&mut self, ack: bool)
+        requires room { length self.old.waiting + 6 ≤ most_waiting }
+        ensures text { Waits (packet_word ack) self.old self.new }
+        ensures len { length self.new.waiting ≤ length self.old.waiting + 6 }
+    {
+        if ack {
+            self.push(b" ack ");
+        } else {
+            self.push(b" data ");
+        }
     }
 
     pub(crate) fn add_taken<K: Sink>(&mut self, sink: &mut K, number: u32)
@@ -225,8 +248,10 @@ impl Printer {
         ensures { Prints (K.state sink.old) (K.state sink.new)
             (line (number_after (codes "arrived ") packet)) self.old self.new }
     {
-        self.add_number_after(sink, b"arrived ", packet);
-        self.end_line(sink);
+        self.make_room(sink, MOST_OF_ARRIVED);
+        self.push(b"arrived ");
+        self.push_u32(packet);
+        self.push(b"\n");
     }
 
     pub(crate) fn add_ticked<K: Sink>(&mut self, sink: &mut K)
@@ -241,8 +266,10 @@ impl Printer {
         ensures { Prints (K.state sink.old) (K.state sink.new)
             (line (number_after (codes "lost ") packet)) self.old self.new }
     {
-        self.add_number_after(sink, b"lost ", packet);
-        self.end_line(sink);
+        self.make_room(sink, MOST_OF_ARRIVED);
+        self.push(b"lost ");
+        self.push_u32(packet);
+        self.push(b"\n");
     }
 }
 
@@ -251,11 +278,4 @@ fn head_len(settings: &Settings) -> usize
     ensures { result ≡ head_len settings.now }
 {
     if settings.digits() > 8 { 5 } else { 4 }
-}
-
-// What a packet carries.
-fn packet_word(ack: bool) -> &'static [u8]
-    ensures { result.now ≡ packet_word ack }
-{
-    if ack { b" ack " } else { b" data " }
 }

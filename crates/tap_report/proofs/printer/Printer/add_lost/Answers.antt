@@ -1,5 +1,7 @@
-use Rattle.tap_report.proofs.PrintsLemmas.{◌⨾◌}
+use Rattle.tap_report.proofs.PrintsLemmas.{◌⨾◌, Prints-waits, Waits-then}
 use Rattle.tap_report.proofs.printer.Printer.add_lost.Goals as goal
 
 pub returns : goal.returns
-returns g c = c.add_number_after.ensures ⨾ c.end_line.ensures
+returns g c =
+    let number = Waits-then c.push.ensures.text c.push_u32.ensures.text in
+    c.make_room.ensures.prints ⨾ Prints-waits (Waits-then number c.push-2.ensures.text)

@@ -1,6 +1,8 @@
-use Rattle.tap_report.proofs.PrintsLemmas.{◌⨾◌}
+use Rattle.tap_report.proofs.PrintsLemmas.{◌⨾◌, Prints-waits, Waits-then}
 use Rattle.tap_report.proofs.printer.Printer.add_packet.Goals as goal
 
 pub returns : goal.returns
 returns g c =
-    c.add_number_after.ensures ⨾ rw c.packet_word.ensures at c.add_number_after-2.ensures ⨾ c.end_line.ensures
+    let number = Waits-then c.push.ensures.text c.push_u32.ensures.text in
+    let frame = Waits-then c.push_packet_word.ensures.text c.push_u32-2.ensures.text in
+    c.make_room.ensures.prints ⨾ Prints-waits (Waits-then (Waits-then number frame) c.push-2.ensures.text)
