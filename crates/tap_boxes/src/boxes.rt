@@ -90,6 +90,7 @@ impl Boxes {
     }
 
     /// Takes the packet at a place out of the net, if there is one.
+    #[inline(always)]
     pub fn take(&mut self, place: u32) -> Option<Numbered>
         ensures packet { result ≡ slice_get self.old.net.packets place }
         ensures after { self.new ≡ without_packet self.old place }
@@ -101,6 +102,7 @@ impl Boxes {
     /// Puts a packet into the net. The answer is its number. `NoMemory` only if memory was refused; nothing changes then.
     ///
     /// Condition: there is a number for it.
+    #[inline(always)]
     pub fn put(&mut self, packet: Packet) -> Result<u32, NoMemory>
         requires { self.old.net.made < most_packets }
         ensures number { IfOk result (λ number. number ≡ self.old.net.made) }
@@ -146,6 +148,7 @@ impl Boxes {
     /// An acknowledgement arrives at the node to which it goes, which no longer awaits it.
     ///
     /// Condition: if the node awaits it, it is counted.
+    #[inline(always)]
     pub fn acked(&mut self, packet: &Packet)
         requires { IsTrue (is_awaited self.old packet.now) → 1 ≤ self.old.outboxes.awaiting }
         ensures { HasAcked packet.now self.old self.new }
@@ -157,6 +160,7 @@ impl Boxes {
     /// was refused.
     ///
     /// Condition: it has a sequence number of at least 1.
+    #[inline(always)]
     pub fn arrived(&mut self, packet: &Packet) -> Result<bool, NoMemory>
         requires { 1 ≤ packet.now.seq }
         ensures first { IfOk result (λ first. first ≡

@@ -108,6 +108,7 @@ impl Carrier {
     }
 
     // Makes a packet: it is put into the net, and the log says so.
+    #[inline(always)]
     pub(crate) fn put(&mut self, world: &mut World, packet: Packet) -> Result<(), Stop>
         requires goes_on { MayGoOn world.old }
         requires runs { world.old.stopped ≡ false }
@@ -128,6 +129,7 @@ impl Carrier {
     // ---- packets that end, or are made once more
 
     // Takes the packet at a place out of the net.
+    #[inline(always)]
     fn take(&mut self, place: u32) -> Numbered
         requires { place < length self.old.boxes.net.packets }
         ensures packet { slice_get self.old.boxes.net.packets place ≡ Some result }
@@ -143,6 +145,7 @@ impl Carrier {
     /// `NoMemory`.
     ///
     /// Condition: there is a packet at this place, and the world goes on.
+    #[inline(always)]
     pub fn arrive(&mut self, world: &mut World, place: u32) -> Result<Packet, Stop>
         requires goes_on { MayGoOn world.old }
         requires runs { world.old.stopped ≡ false }
@@ -197,6 +200,7 @@ impl Carrier {
     /// An acknowledgement has arrived at the node to which it goes, which no longer awaits it.
     ///
     /// Condition: if the node awaits it, it is counted.
+    #[inline(always)]
     pub fn acked(&mut self, packet: &Packet)
         requires { IsTrue (is_awaited self.old.boxes packet.now) → 1 ≤ self.old.boxes.outboxes.awaiting }
         ensures boxes { HasAcked packet.now self.old.boxes self.new.boxes }
@@ -209,6 +213,7 @@ impl Carrier {
     /// `NoMemory`.
     ///
     /// Condition: it has a sequence number of at least 1.
+    #[inline(always)]
     pub fn is_new(&mut self, packet: &Packet) -> Result<bool, Stop>
         requires { 1 ≤ packet.now.seq }
         ensures first { IfOk result (λ first. first ≡

@@ -112,6 +112,7 @@ impl Net {
     }
 
     /// Puts a packet, and gives its number, from 0. A refused call changes nothing.
+    #[inline(always)]
     pub fn put(&mut self, packet: Packet) -> Result<u32, NoMemory>
         requires { self.old.made < most_packets }
         ensures number { IfOk result (λ number. number ≡ self.old.made) }
@@ -174,6 +175,7 @@ impl Net {
 
     /// Takes the packet at a place; the order of the others stays. `None` comes exactly if the place is at or above
     /// how many are under way, and then nothing changes.
+    #[inline(always)]
     pub fn take(&mut self, place: u32) -> Option<Numbered>
         ensures packet { result ≡ slice_get self.old.packets place }
         ensures after { self.new ≡ taken_at self.old place }

@@ -123,6 +123,7 @@ impl Engine {
     /// Roots take the room that was made for them with the step that asks for them, and no memory.
     ///
     /// Rule: docs/FORMATS.md, "Groups and moments".
+    #[inline(always)]
     pub fn remark(&mut self, item: Record) -> Result<(), NoMemory>
         requires { is_added item ≡ true }
         ensures same { self.new ≡ record self.old { ledger = self.new.ledger } }
@@ -142,6 +143,7 @@ impl Engine {
     }
 
     // Whether the remark tells roots, and there is room for them beside what is always kept.
+    #[inline(always)]
     fn has_room_for(&self, item: &Record) -> bool
         ensures { result ≡ (tells_roots item.now && nat_le 3 self.now.ledger.spare) }
     {

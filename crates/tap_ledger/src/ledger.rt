@@ -328,6 +328,7 @@ impl Ledger {
     /// Adds a remark: a record that only a carrier tells. The room for further records stays. A refused call changes nothing.
     ///
     /// Rule: docs/FORMATS.md, "Groups and moments".
+    #[inline(always)]
     pub fn remark(&mut self, item: Record) -> Result<(), NoMemory>
         requires { is_added item ≡ true }
         ensures records { self.new.records ≡ self.old.records }

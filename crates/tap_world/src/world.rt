@@ -280,6 +280,7 @@ impl World {
     /// `Ended` comes exactly if an earlier call answered `Spent` or `NoMemory`, and changes nothing. No other refusal comes.
     ///
     /// Rule: docs/FORMATS.md, "Groups and moments".
+    #[inline(always)]
     pub fn remark(&mut self, item: Record) -> Result<(), Stop>
         requires goes_on { MayGoOn self.old }
         requires kind { is_added item ≡ true }
