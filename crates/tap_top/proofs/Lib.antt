@@ -1,5 +1,5 @@
 mod Flushing
 mod Texts
-mod Turning
+mod Left
 mod Consumed
 mod Causes

@@ -19,11 +19,12 @@ ghost use Rattle.tap_words.specs.Words.{asked_by};
 
 use crate::fault_line::write_fault_line;
 use crate::printing::flush_after;
-use crate::running::{play, put_from};
+use crate::running::play;
 use crate::status::{Ended, Status};
 use crate::wanted::{mode_of, wanted_scenario};
 use std::alloc::{AllocError, Global};
 use tap_io::{BufferedSink, Sink, Source};
+use tap_printing::put_from;
 use tap_replay::{NoMemory, Player};
 use tap_report::{Mode, Reporter, Written};
 use tap_scenario::{Fault, Scenario};
@@ -151,8 +152,8 @@ fn run_words<S: Source, K: Sink>(
 /// doesn't say how it ended. A scenario is read from a source; with `--make` one is made, of which the summary is written, and the
 /// source isn't touched.
 ///
-/// The words come first, then the reading, the scenario, and then the run and the writing side by side: the records of a turn are
-/// written once it is over. The fault line is last. The first read that fails ends the reading, and the first write that fails ends
+/// The words come first, then the reading, the scenario, and then the run and the writing side by side: the records of some turns are
+/// written together once these are over. The fault line is last. The first read that fails ends the reading, and the first write that fails ends
 /// the writing, but not the run: the log and `before` don't depend on the sink. The log is that of the world that is left. If none
 /// is left, it is empty; else it is lawful. If `before` is `Done`, the nodes of the world are those of the system that the log has come
 /// to. If nothing is started but J joins, with N members and names that join, each of n digits, `before` is `Spent` only if the

@@ -1,13 +1,13 @@
 use Rattle.std.proofs.Common.{◌≡◌, [], refl, sym, ◌∙◌}
 use Rattle.tap_engine.specs.World.{whole_log}
 use Rattle.tap_io.specs.BufferedSink.{buffered_state, state_over}
+use Rattle.tap_printing.proofs.Turning.{player_prints}
 use Rattle.tap_report.specs.Reporter.{Reports}
 use Rattle.tap_report.proofs.ReportsLemmas.{Reports-finish, Reports-new}
 use Rattle.tap_report.proofs.WritesLemmas.{WritesText-then}
 use Rattle.tap_top.specs.Ending.{text_of_run}
 use Rattle.tap_top.proofs.Causes.{run_as}
 use Rattle.tap_top.proofs.Texts.{HasWritten-from_text}
-use Rattle.tap_top.proofs.Turning.{player_prints}
 use Rattle.tap_top.proofs.top.print_run.Goals as goal
 
 pub put_from-requires-clause-printable : goal.put_from-requires-clause-printable

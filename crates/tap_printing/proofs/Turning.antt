@@ -1,5 +1,6 @@
--- The turns of a player: when it may take one, that its log only grows, and that the log can be printed.
-use Rattle.std.proofs.Common.{◌≡◌, inl, inr, ◌≤◌, Bool, true, false, List, [], ◌∷◌, ◌++◌, length, take, Option, None, Some, refl, ap, sym, subst, ◌∙◌, arith, append_assoc, append-nil}
+-- The turns of a player: that its log only grows, and that it can be printed.
+-- Cited above: player_prints
+use Rattle.std.proofs.Common.{◌≡◌, inl, inr, ◌≤◌, Bool, true, false, List, [], ◌∷◌, ◌++◌, length, take, Option, None, Some, refl, ap, sym, subst, ◌∙◌, arith, append_assoc, append-nil, take-take}
 use Rattle.std.specs.Prelude.{nat_le, MatchOption}
 use Rattle.std.proofs.Math.Seq.{take-length}
 use Rattle.std.proofs.lemmas.Bool.{cases_Bool}
@@ -18,18 +19,13 @@ use Rattle.tap_replay.proofs.ByCarrier.{player_log}
 use Rattle.tap_replay.specs.CarriedPlayer.{CarriedTurnsAs, StaysOrIsCut}
 use Rattle.tap_replay.specs.CarriedTurn.{carried_outcome_by, carried_turn_outcome, unless_carried_spent}
 use Rattle.tap_replay.specs.Player.{PlayerValue, TurnsAs}
-use Rattle.tap_replay.specs.Runs.{GoesOnBy, HasPlayed, IsLeftBy, LeavesWorld, TakesTurn, TurnsBy}
+use Rattle.tap_replay.specs.Runs.{HasPlayed, TakesTurn, TurnsBy}
 use Rattle.tap_replay.specs.Turn.{outcome_by, turn_outcome, unless_finished, unless_spent}
-use Rattle.tap_replay.specs.declared.end.End.{End}
 use Rattle.tap_replay.specs.declared.end.End.TheVariants.{Done, Spent, NoMemory}
 use Rattle.tap_replay.specs.declared.end.Turned.{Turned}
 use Rattle.tap_replay.specs.declared.end.Turned.TheVariants.{More, Over}
 
--- ---- how far a run has come
-
-pub is_left : (s : ScenarioValue) (p : PlayerValue) (end : End) → HasPlayed s p → p.over ≡ Some end → LeavesWorld s end p.world
-is_left s p end played over =
-    subst (λ o. MatchOption o (GoesOnBy s.carrier s p.world) (λ e. IsLeftBy s.carrier s e p.world)) over played
+-- ---- what was run so far
 
 -- the log of a run so far can be printed
 pub player_prints : (s : ScenarioValue) (p : PlayerValue) → IsScript s → HasPlayed s p → CanBePrinted (whole_log p.world)
@@ -123,3 +119,9 @@ front_within log longer front =
     let size = length-take (length log) longer in
     let same : length (take (length log) longer) ≡ length log = ap length front in
     omega (arith, size, same)
+
+-- and so it is after further turns
+pub front_on : (log longer longest : List Record) → take (length log) longer ≡ log → take (length longer) longest ≡ longer
+    → take (length log) longest ≡ log
+front_on log longer longest front further =
+    sym (take-take (length log) (length longer) longest (front_within log longer front)) ∙ ap (take (length log)) further ∙ front
