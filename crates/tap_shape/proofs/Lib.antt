@@ -12,3 +12,5 @@ mod Taking
 mod Accepted
 pub mod Exact
 pub mod Unique
+mod Begins
+mod Openings

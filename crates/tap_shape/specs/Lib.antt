@@ -1,4 +1,5 @@
 pub mod Shape
 pub mod Text
 pub mod Reader
+pub mod Opening
 pub mod Laws

@@ -42,7 +42,7 @@ fn line_count(bytes: &[u8]) -> usize
 }
 
 // The place of the first line feed.
-fn first_feed(text: &[u8]) -> Option<usize>
+pub(crate) fn first_feed(text: &[u8]) -> Option<usize>
     ensures first { IsFirstByte (is_byte 10) text.now result }
     ensures inside { IfSome result (λ at. at < length text.now) }
 {
@@ -50,7 +50,7 @@ fn first_feed(text: &[u8]) -> Option<usize>
 }
 
 // What stands before this place.
-fn before(text: &[u8], at: usize) -> &[u8]
+pub(crate) fn before(text: &[u8], at: usize) -> &[u8]
     requires { at < length text.now }
     ensures { result.now ≡ take at text.now }
 {
@@ -58,7 +58,7 @@ fn before(text: &[u8], at: usize) -> &[u8]
 }
 
 // What stands after this place.
-fn after(text: &[u8], at: usize) -> &[u8]
+pub(crate) fn after(text: &[u8], at: usize) -> &[u8]
     requires { at < length text.now }
     ensures { result.now ≡ drop (at + 1) text.now }
 {
@@ -75,7 +75,7 @@ fn first_line(text: &[u8]) -> Option<Beginning>
 
 // The log that the line begins which the text is.
 #[inline(never)]
-fn begin(alloc: Global, records: Records, text: &[u8]) -> Option<Begun>
+pub(crate) fn begin(alloc: Global, records: Records, text: &[u8]) -> Option<Begun>
     ensures { option_map HasBegun result ≡ text_taken (Start records) text.now }
 {
     let first = first_line(text)?;
@@ -85,7 +85,7 @@ fn begin(alloc: Global, records: Records, text: &[u8]) -> Option<Begun>
 // Takes the line that the text is, if it may stand here.
 #[inline(always)]
 #[tactic(auto, unfolding(crate::specs::Reader::line_at))]
-fn go_on(alloc: Global, begun: &mut Begun, text: &[u8]) -> Result<bool, NoMemory>
+pub(crate) fn go_on(alloc: Global, begun: &mut Begun, text: &[u8]) -> Result<bool, NoMemory>
     ensures { IfOk result (λ taken. option_map HasBegun (if_taken taken begun.new) ≡ text_taken (HasBegun begun.old) text.now) }
 {
     match read_line(alloc, &begun.settings, begun.records.is_carried(), text) {
@@ -97,7 +97,7 @@ fn go_on(alloc: Global, begun: &mut Begun, text: &[u8]) -> Result<bool, NoMemory
 }
 
 // The records, if nothing is left of the text and the log may end here.
-fn end(begun: Begun, rest: &[u8]) -> Result<Option<Records>, NoMemory>
+pub(crate) fn end(begun: Begun, rest: &[u8]) -> Result<Option<Records>, NoMemory>
     ensures { IfOk result (λ found. found ≡ ended (HasBegun begun) rest.now) }
 {
     if rest.is_empty() {

@@ -21,6 +21,15 @@ impl Model for Records {
 }
 
 impl Records {
+    // None.
+    pub(crate) fn new(alloc: Global) -> Records
+        ensures { result ≡ [] }
+    {
+        Records {
+            log: Log::new(alloc),
+        }
+    }
+
     // None, with room for so many.
     pub(crate) fn with_room(alloc: Global, room: usize) -> Result<Records, NoMemory>
         ensures { IfOk result (λ records. records ≡ []) }
