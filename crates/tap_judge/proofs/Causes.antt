@@ -1,5 +1,5 @@
 -- Why the judge's call ends as it does, and that what it says of bytes is exact.
-use Rattle.std.proofs.Common.{◌≡◌, ◌≢◌, inl, inr, ℕ, ◌-◌, ◌^◌, ◌<◌, List, [], ◌∷◌, ◌++◌, length, Option, None, Some, refl, ap, sym, subst, ◌∙◌, arith, append-nil}
+use Rattle.std.proofs.Common.{◌≡◌, ◌≢◌, inl, inr, ℕ, ◌-◌, ◌^◌, ◌<◌, ◌≤◌, List, [], ◌∷◌, ◌++◌, length, Option, None, Some, refl, ap, sym, subst, ◌∙◌, arith, append-nil}
 use Rattle.std.specs.Prelude.{◌↔◌}
 use Rattle.std.specs.Io.KnownBytes.{Consumes, IsAtEnd}
 use Rattle.std.proofs.KnownBytes.{Consumes-nil}
@@ -15,10 +15,10 @@ use Rattle.tap_own_scripts.proofs.Judging.{judges_hold}
 use Rattle.tap_report.specs.Written.{WritesText}
 use Rattle.tap_report.specs.declared.written.Written.{Written}
 use Rattle.tap_report.specs.declared.written.Written.TheVariants.{All, Failed}
-use Rattle.tap_shape.specs.Text.{IsNotLog}
+use Rattle.tap_shape.specs.Text.{IsNotLog, IsTextOf}
 use Rattle.tap_shape.proofs.Exact.{one_log}
 use Rattle.tap_shape.proofs.Unique.{one_refused}
-use Rattle.tap_judge.specs.Ending.{HasCause, HasReadLawful, HasReadLog, HasReadSuch, HasWritten, IsCauseOf, IsLawfulText, IsSaidOf, IsUnlawfulText, OneIsSaid, SpeaksOfBytes}
+use Rattle.tap_judge.specs.Ending.{HasCause, HasReadLawful, HasReadSuch, HasWritten, IsCauseOf, IsLawfulText, IsSaidOf, IsUnlawfulText, OneIsSaid, SpeaksOfBytes}
 use Rattle.tap_judge.specs.Limits.{most_bytes}
 use Rattle.tap_judge.specs.Status.{with_writing}
 use Rattle.tap_judge.proofs.Sizes.{records_within}
@@ -61,6 +61,9 @@ one_is_said bytes (Unlawful k) other one said = one_unlawful bytes k one other s
 one_is_said bytes (NotLog line) other one said = one_not_log bytes line one other said
 one_is_said bytes status other one said = absurd one
 
+pub few_records : (bytes : List ℕ) (log : List Record) → length bytes ≤ most_bytes → IsTextOf bytes log → length log < 2 ^ 32 - 1
+few_records bytes log within text = let size = records_within bytes log text in omega (arith, size, within)
+
 -- ---- what was read
 
 module _ (old new : SourceState) where
@@ -92,13 +95,6 @@ module _ (old new : SourceState) where
     read = record { bytes = bytes; within = all.within; consumes = all.consumes };
     faults = all.faults;
   }
-
-  pub few_records : (log : List Record) → HasReadLog old new log → length log < 2 ^ 32 - 1
-  few_records log read =
-      let size = records_within read.bytes log read.text in
-      let whole = read.read in
-      let within = whole.within in
-      omega (arith, size, within)
 
   -- the headline comes with it
   pub with_headline : (records : ℕ) → HasReadSuch old new (Lawful records) → HasReadLawful old new records

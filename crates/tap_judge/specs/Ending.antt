@@ -37,6 +37,11 @@ IsSaidOf bytes (Unlawful k) = IsUnlawfulText bytes k
 IsSaidOf bytes (NotLog line) = IsNotLog bytes line
 IsSaidOf bytes other = ⊥
 
+-- what was found of bytes: one of these three, which is true of them, or that memory was refused
+abbrev pub IsAnswerOn : List ℕ → JudgeStatus → Type 0
+IsAnswerOn bytes NoMemory = Unit {0}
+IsAnswerOn bytes status = IsSaidOf bytes status
+
 -- the status is one of these three
 abbrev pub SpeaksOfBytes : JudgeStatus → Type 0
 SpeaksOfBytes (Lawful records) = Unit {0}
@@ -62,9 +67,8 @@ pub record HasReadLog (old new : SourceState) (log : List Record) : Type 0 where
   pub read : HasReadAll most_bytes old new bytes
   pub text : IsTextOf bytes log
 
--- Why there is no log: the bytes are the text of none, or weren't read to their end. The status is none of the others.
+-- Why the bytes weren't read to their end. The status is none of the others.
 abbrev pub IsNotRead : SourceState → SourceState → JudgeStatus → Type 0
-IsNotRead old new (NotLog line) = HasReadSuch old new (NotLog line)
 IsNotRead old new TooLong = HasReadTooMany most_bytes old new
 IsNotRead old new ReadFault = HasReadUntilFault most_bytes old new
 IsNotRead old new NoMemory = HasReadWithoutFault most_bytes old new

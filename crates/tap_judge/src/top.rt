@@ -1,17 +1,19 @@
-ghost use Rattle.std.specs.Prelude.{◌≡◌, ◌≢◌, ◌↔◌, ℕ, List, [], Some};
+ghost use Rattle.std.specs.Prelude.{◌≡◌, ◌≢◌, ◌↔◌, ◌≤◌, ℕ, List, [], Some, length};
 ghost use Rattle.tap_io.specs.AllBytes.{HasReadAtMost, HasReadTooMany, HasReadUntilFault, HasReadWithoutFault};
 ghost use Rattle.tap_io.specs.Faults.{HasRisen};
-ghost use Rattle.tap_judge.specs.Ending.{HasCause, HasReadLawful, HasReadSuch, HasWritten, IsCauseOf, IsSaidOf, SpeaksOfBytes};
+ghost use Rattle.tap_judge.specs.Ending.{HasCause, HasReadLawful, HasReadSuch, HasWritten, IsAnswerOn, IsCauseOf, IsSaidOf, SpeaksOfBytes};
 ghost use Rattle.tap_judge.specs.Limits.{most_bytes};
 ghost use Rattle.tap_judge.specs.Status.{line_of_status};
 
 use crate::judging::judge;
 use crate::line::write_line;
-use crate::reading::source_log;
+use crate::printed::records_as_printed;
+use crate::reading::{log_of_bytes, source_bytes};
 use crate::status::{JudgeStatus, Judged};
 use crate::verdict::Verdict;
 use std::alloc::Global;
 use tap_io::{Sink, Source};
+use tap_replay::NoMemory;
 
 /// Reads the long text of a log from a source to its end, decides whether the log is lawful, and writes one line that says it to a sink.
 ///
@@ -76,7 +78,30 @@ fn judge_unless_words<S: Source>(alloc: Global, words: &Vec<String>, source: &mu
 fn judge_source<S: Source>(alloc: Global, source: &mut S) -> JudgeStatus
     ensures { IsCauseOf (S.state source.old) (S.state source.new) result }
 {
-    let log = match source_log(alloc, source) {
+    match source_bytes(alloc, source) {
+        Ok(bytes) => judge_bytes(alloc, bytes),
+        Err(status) => status,
+    }
+}
+
+// Judges the log of which the bytes are the text. A lawful text is mostly what the run of its own scenario prints.
+fn judge_bytes(alloc: Global, bytes: Vec<u8>) -> JudgeStatus
+    requires few { length bytes.items ≤ most_bytes }
+    ensures { IsAnswerOn bytes.items result }
+{
+    match records_as_printed(alloc, bytes.as_slice()) {
+        Ok(Some(records)) => JudgeStatus::Lawful(records),
+        Ok(None) => judge_each_line(alloc, bytes),
+        Err(NoMemory) => JudgeStatus::NoMemory,
+    }
+}
+
+// The same, by reading all lines.
+fn judge_each_line(alloc: Global, bytes: Vec<u8>) -> JudgeStatus
+    requires few { length bytes.items ≤ most_bytes }
+    ensures { IsAnswerOn bytes.items result }
+{
+    let log = match log_of_bytes(alloc, bytes) {
         Ok(log) => log,
         Err(status) => return status,
     };

@@ -1,0 +1,99 @@
+ghost use Rattle.std.specs.Prelude.{◌≡◌, None, length, fold, IfOk, IfSome};
+ghost use Rattle.tap_engine.specs.World.{whole_log};
+ghost use Rattle.tap_io.specs.Sink.{SinkState};
+ghost use Rattle.tap_replay.specs.Runs.{HasPlayed};
+ghost use Rattle.tap_report.specs.Reporter.{Reports, settings_after};
+ghost use Rattle.tap_report.specs.declared.mode.Mode.{Mode as ReportMode};
+ghost use Rattle.tap_scenario.specs.Scenario.{IsScript};
+ghost use Rattle.tap_judge.specs.Ending.{IsLawfulText};
+ghost use Rattle.tap_judge.specs.Expected.{expected_state};
+
+use crate::expected::Expected;
+use crate::own_run::own_scenario;
+use std::alloc::Global;
+use tap_lawful_shapes::shapes_law;
+use tap_printing::{put_from, turns_and_put};
+use tap_replay::{End, NoMemory, Player, Turned};
+use tap_report::{Mode, Reporter};
+use tap_scenario::Scenario;
+use tap_shape::read_opening;
+
+// How many records the log has of which the bytes are the text, if the run of the scenario that they tell prints them, however far it has come
+// then. That log is lawful. The run is left at the first turn that prints something else.
+pub(crate) fn records_as_printed(alloc: Global, bytes: &[u8]) -> Result<Option<u32>, NoMemory>
+    ensures { IfOk result (λ found. IfSome found (IsLawfulText bytes.now)) }
+{
+    match told_scenario(alloc, bytes)? {
+        Some(scenario) => records_of_run(alloc, &scenario, bytes),
+        None => Ok(None),
+    }
+}
+
+// The scenario that a text tells by the lines that open its log and begin its steps, if these are the text of a log.
+fn told_scenario(alloc: Global, bytes: &[u8]) -> Result<Option<Scenario>, NoMemory>
+    ensures { IfOk result (λ found. IfSome found IsScript) }
+{
+    match read_opening(alloc, bytes)? {
+        Some(log) => Ok(Some(own_scenario(alloc, log.as_slice())?)),
+        None => Ok(None),
+    }
+}
+
+// The same of the run of this scenario. The player is dropped in one place: what is shown of that is long.
+fn records_of_run(alloc: Global, scenario: &Scenario, bytes: &[u8]) -> Result<Option<u32>, NoMemory>
+    requires valid { IsScript scenario.now }
+    ensures { IfOk result (λ found. IfSome found (IsLawfulText bytes.now)) }
+{
+    let mut player = Player::new(alloc, scenario)?;
+    records_printed(&mut player, scenario, bytes)
+}
+
+// The same of a player that has taken no turn.
+fn records_printed(
+    player: &mut Player,
+    scenario: &Scenario,
+    bytes: &[u8],
+) -> Result<Option<u32>, NoMemory>
+    requires valid { IsScript scenario.now }
+    requires played { HasPlayed scenario.now player.old }
+    requires begun { player.old.over ≡ None }
+    ensures { IfOk result (λ found. IfSome found (IsLawfulText bytes.now)) }
+{
+    // No effect at run time. The proof reads from this call that the log is the one of which this is the text.
+    shapes_law();
+    let mut reporter = Reporter::new(Mode::Long);
+    let mut text = Expected::new(bytes);
+    put_from(player.log(), 0, &mut reporter, &mut text);
+    play_on(player, scenario, &mut reporter, &mut text)?;
+    if text.has_taken(bytes.len()) {
+        return Ok(Some(player.log().len() as u32));
+    }
+    Ok(None)
+}
+
+// Takes one turn after the other while more bytes are expected, and puts the records of each.
+fn play_on(
+    player: &mut Player,
+    scenario: &Scenario,
+    reporter: &mut Reporter,
+    text: &mut Expected,
+) -> Result<(), NoMemory>
+    requires valid { IsScript scenario.now }
+    requires played { HasPlayed scenario.now player.old }
+    requires begun { player.old.over ≡ None }
+    requires put { reporter.old.records ≡ length (whole_log player.old.world) }
+    requires settings { reporter.old.settings ≡ fold settings_after None (whole_log player.old.world) }
+    ensures played { HasPlayed scenario.now player.new }
+    ensures reports { (mode : ReportMode) (first : SinkState)
+        → Reports mode (whole_log player.old.world) first (expected_state text.old) reporter.old
+        → Reports mode (whole_log player.new.world) first (expected_state text.new) reporter.new }
+{
+    while text.goes_on() {
+        match turns_and_put(player, scenario, 1, reporter, text) {
+            Turned::More => {}
+            Turned::Over(End::NoMemory) => return Err(NoMemory),
+            Turned::Over(_) => return Ok(()),
+        }
+    }
+    Ok(())
+}
