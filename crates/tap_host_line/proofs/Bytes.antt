@@ -1,4 +1,4 @@
--- bytes that are told one by one
+-- bytes that are known one by one
 use Rattle.std.proofs.Common.{◌≡◌, ℕ, suc, List, [], ◌∷◌, length, get_or}
 
 -- from this place on, these stand in a list

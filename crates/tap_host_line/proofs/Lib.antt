@@ -1,3 +1,5 @@
 mod Bytes
+mod Hexes
 mod Known
 mod Members
+mod Packets

@@ -1,5 +1,5 @@
 -- Members that are read one after another.
-use Rattle.std.proofs.Common.{◌≡◌, ℕ, Bool, true, false, ◌||◌, List, [], ◌∷◌, ◌++◌, length, Option, None, Some, refl}
+use Rattle.std.proofs.Common.{◌≡◌, ℕ, true, false, List, [], ◌∷◌, ◌++◌, length, None, Some, refl}
 use Rattle.std.specs.Prelude.{nat_le}
 use Rattle.tap_name.specs.Name.{name_of_word}
 use Rattle.tap_name.specs.Names.{has_name}

@@ -3,7 +3,7 @@
 -- A text: `line_of_text`, then `verb_of_word` for its first word and `line_of_words` for the others.
 --
 -- Rule: docs/NETWORK.md, "Lines".
-use Rattle.std.specs.Prelude.{◌≡◌, ◌==◌, ◌||◌, ℕ, ◌+◌, ◌^◌, ◌<◌, ◌≤◌, nat_le, List, [], ◌∷◌, ◌++◌, length, All, codes, bytes_eq, find, Option, None, Some, option_map, option_and_then, if◌then◌else◌}
+use Rattle.std.specs.Prelude.{◌==◌, ◌||◌, ℕ, ◌+◌, ◌^◌, ◌≤◌, nat_le, List, [], ◌∷◌, ◌++◌, length, All, codes, bytes_eq, find, Option, None, Some, option_map, option_and_then, if◌then◌else◌}
 use Rattle.std.specs.Option.{option_zip}
 use Rattle.std.specs.Result.{result_ok}
 use Rattle.hex.specs.Hex.{decode_of}

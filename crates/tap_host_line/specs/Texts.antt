@@ -1,7 +1,7 @@
 -- Lines out: the text of each.
 --
 -- Rule: docs/NETWORK.md, "Lines".
-use Rattle.std.specs.Prelude.{ℕ, Bool, true, false, if◌then◌else◌, List, [], ◌++◌, codes, decimal, Option, None, Some}
+use Rattle.std.specs.Prelude.{ℕ, if◌then◌else◌, List, [], ◌++◌, codes, decimal, Option, None, Some}
 use Rattle.hex.specs.Hex.{encode_lower}
 use Rattle.tap_name.specs.Name.{Name, text_of_name}
 use Rattle.tap_node_common.specs.declared.news.News.{News}

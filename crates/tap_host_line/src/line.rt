@@ -1,7 +1,7 @@
 use tap_name::{List, Name};
 use tap_scenario::Word;
 
-/// What a node is told to start.
+/// What a node is to start.
 ///
 /// Rule: docs/NETWORK.md, "Lines".
 #[derive(Clone, Copy, Debug)]
@@ -76,6 +76,6 @@ pub enum Line {
     },
     /// Each frame that awaits its acknowledgement is to be sent once more.
     Tick,
-    /// The node is to be told of.
+    /// The status of the node is asked for.
     Status,
 }

@@ -3,10 +3,10 @@ ghost use Rattle.tap_name.specs.Name.{IsName, name_of_word};
 ghost use Rattle.tap_scenario.specs.Step.{one_name, only};
 ghost use Rattle.tap_host_line.specs.Line.{IsLine, IsStart, ack_of_words, cast_of_words, find_of_words, level_of_word, line_of_text, line_of_words, members_of_words, packet_of_words, start_of_words, seq_of_word, u32_of_word};
 
+use crate::hexadecimal::bytes_of_hex;
 use crate::line::{Line, Start};
 use crate::memory::NoMemory;
 use crate::verb::Verb;
-use hex::FromHexError;
 use std::alloc::Global;
 use tap_name::{List, Name, Settings, read_name};
 use tap_scenario::{Word, Words, read_number};
@@ -162,23 +162,23 @@ fn read_packet(
     ensures value { IfOk result (λ line. line ≡ packet_of_words settings.now words.entry) }
     ensures valid { IfOk result (λ line. IfSome line (IsLine settings.now)) }
 {
-    let (Some(from), Some(seq), Some(frame)) = (words.next(), words.next(), words.next()) else {
+    let (Some(from), Some(seq)) = (words.next(), words.next()) else {
         return Ok(None);
     };
-    if words.next().is_some() {
-        return Ok(None);
-    }
     let (Some(from), Some(seq)) = (name_of(settings, from), seq_of(seq)) else {
         return Ok(None);
     };
-    match hex::decode(alloc, frame) {
-        Ok(bytes) => Ok(Some(Line::Packet {
+    // What is left is one word if it spells a frame, so it isn't looked through for a space.
+    let Some(frame) = words.text() else {
+        return Ok(None);
+    };
+    match bytes_of_hex(alloc, frame)? {
+        Some(bytes) => Ok(Some(Line::Packet {
             from,
             seq,
             frame: List::from_vec(bytes),
         })),
-        Err(FromHexError::OutOfMemory) => Err(NoMemory),
-        Err(_) => Ok(None),
+        None => Ok(None),
     }
 }
 

@@ -30,7 +30,8 @@ pub enum HeadFault {
 }
 
 /// Why bytes are no frame: the first refusal, in the order of the variants but for `Short`, which also comes after
-/// `BadCount`. Want of memory comes in place of a frame with slots, links or letters alone, and never of a refusal.
+/// `BadCount`. Want of memory comes in place of a frame with slots or links alone, which are a Tell and a Hello, and never of a
+/// refusal.
 ///
 /// Rule: docs/FORMATS.md, "Frames".
 #[derive(Clone, Copy, Debug, PartialEq, Eq)]

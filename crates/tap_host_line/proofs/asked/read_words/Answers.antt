@@ -1,4 +1,4 @@
-use Rattle.std.proofs.Common.{◌≡◌, ◌∙◌, List, None, Some, [], ap, sym, inl, inr, map, ◌∷◌, refl}
+use Rattle.std.proofs.Common.{◌≡◌, ◌∙◌, List, None, [], ap, inl, inr, map, ◌∷◌, refl}
 use Rattle.std.specs.Prelude.{◌≢◌, ok_or}
 use Rattle.std.specs.String.{string_bytes}
 use Rattle.clap.specs.Words.{HasKind, Kinds, Row, Text, kind_of, matches_of}

@@ -1,7 +1,6 @@
-use Rattle.std.proofs.Common.{◌≡◌, ◌∙◌, List, ℕ, ap, sym, ◌∷◌}
+use Rattle.std.proofs.Common.{◌∙◌, ap, sym}
 use Rattle.std.specs.Option.{option_and_then}
 use Rattle.std.proofs.lemmas.Result.{IfOk-weaker}
-use Rattle.tap_scenario.specs.Words.{words}
 use Rattle.tap_host_line.specs.declared.verb.Verb.{Verb}
 use Rattle.tap_host_line.specs.Line.{line_of_all, line_of_text, line_of_words}
 use Rattle.tap_host_line.proofs.reading.read_line.Goals as goal
