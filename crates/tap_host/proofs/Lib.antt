@@ -1,6 +1,9 @@
+mod Asking
 mod CastsMet
 mod Entering
+mod Finding
 mod Kept
 mod Letters
+mod Serving
 mod Steps
 mod Ways

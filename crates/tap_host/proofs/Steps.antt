@@ -27,7 +27,7 @@ use Rattle.tap_host_line.specs.Texts.{text_of_ack, text_of_begun, text_of_news, 
 use Rattle.tap_host.specs.declared.host.Going.{Going}
 use Rattle.tap_host.specs.declared.host.Going.TheVariants.{On}
 use Rattle.std.proofs.lemmas.Result.{IfOk-weaker}
-use Rattle.tap_host.specs.Host.{HostSeen, Stepped, TakesStep, after_answer, after_step, at_members, at_number, at_start, full, goes_on, host_seen, host_settings, refused, told, why_of, with_node, with_taken}
+use Rattle.tap_host.specs.Host.{HostSeen, Stepped, TakesStep, after_answer, after_step, at_members, at_number, at_start, full, goes_on, host_seen, host_settings, refused, turned, why_of, with_node, with_taken}
 use Rattle.tap_host.specs.Actor.{ActorValue, below_after, has_start, is_new, start_of}
 use Rattle.tap_host.specs.Intake.{IntakeValue, has_taken}
 use Rattle.tap_host.specs.Mail.{MailSeen, MailValue, mail_seen, mail_sent, posts, posts_by}
@@ -103,10 +103,10 @@ posts_after p mail front text (frame ∷ frames) = by (head_of p frame) (λ mail
         ap (λ t. posts p (mail_sent mail head.to frame, t) frames) (append_assoc front text (text_of_packet head.to (mail.last head.to + 1) frame))
         ∙ others (mail_sent mail head.to frame) (text ++ text_of_packet head.to (mail.last head.to + 1) frame)
 
--- what is told after a text, is it and then what is told
-pub told_after : (host now : HostSeen) (turn : Turn) (before front between after : List ℕ) (going : Going) → between ≡ before ++ front
-    → TakesStep (told host turn between) now [] after going → TakesStep (told host turn front) now before after going
-told_after host now turn before front between after going is takes =
+-- what a turn prints after a text, is it and then what the turn prints
+pub turned_after : (host now : HostSeen) (turn : Turn) (before front between after : List ℕ) (going : Going) → between ≡ before ++ front
+    → TakesStep (turned host turn between) now [] after going → TakesStep (turned host turn front) now before after going
+turned_after host now turn before front between after going is takes =
     let p = host_settings host in
     let news = text_of_news turn.news in
     let same : posts p (host.mail, between ++ news) turn.sent
@@ -124,18 +124,18 @@ told_after host now turn before front between after going is takes =
 
 pub after_turn : (before host : HostSeen) (number : ℕ) (front : List ℕ) (outcome : Outcome) (node : NodeValue) (turn : Turn)
     → outcome.answer ≡ Ok turn → outcome.node ≡ node → nat_le (host.mail.sent + length turn.sent) most_frames ≡ true
-    → after_step before host number front outcome ≡ told (with_node host node turn) turn front
+    → after_step before host number front outcome ≡ turned (with_node host node turn) turn front
 after_turn before host number front outcome node turn answer is room =
     ap (λ a. after_answer before host number front outcome.node a) answer
     ∙ ap (λ n. after_answer before host number front n (Ok turn)) is
-    ∙ ap (λ b. cond b (told (with_node host node turn) turn front) (full before number)) room
+    ∙ ap (λ b. cond b (turned (with_node host node turn) turn front) (full before number)) room
 
 pub after_full : (before host : HostSeen) (number : ℕ) (front : List ℕ) (outcome : Outcome) (turn : Turn)
     → outcome.answer ≡ Ok turn → nat_le (host.mail.sent + length turn.sent) most_frames ≡ false
     → after_step before host number front outcome ≡ full before number
 after_full before host number front outcome turn answer room =
     ap (λ a. after_answer before host number front outcome.node a) answer
-    ∙ ap (λ b. cond b (told (with_node host outcome.node turn) turn front) (full before number)) room
+    ∙ ap (λ b. cond b (turned (with_node host outcome.node turn) turn front) (full before number)) room
 
 pub after_fault : (before host : HostSeen) (number : ℕ) (front : List ℕ) (outcome : Outcome) (fault : NodeFault)
     → outcome.answer ≡ Err fault → after_step before host number front outcome ≡ refused before number (why_of fault)
@@ -202,13 +202,13 @@ module _ {E : Type 0} (answer : Result Going E) (step : Stepped) (now : HostSeen
       (TakesStep step now before after)
       (λ going takes. subst (λ s. TakesStep s now before after going) (sym is) (takes h now)) given
 
-  pub tells_as : (host host' : HostSeen) (turn : Turn) (front between : List ℕ) → step ≡ told host' turn front → host ≡ host'
-      → between ≡ before ++ front → IfOk answer (TakesStep (told host turn between) now [] after) → IfOk answer (TakesStep step now before after)
-  tells_as host host' turn front between is same texts given =
-      IfOk-weaker answer (TakesStep (told host turn between) now [] after) (TakesStep step now before after)
+  pub turns_as : (host host' : HostSeen) (turn : Turn) (front between : List ℕ) → step ≡ turned host' turn front → host ≡ host'
+      → between ≡ before ++ front → IfOk answer (TakesStep (turned host turn between) now [] after) → IfOk answer (TakesStep step now before after)
+  turns_as host host' turn front between is same texts given =
+      IfOk-weaker answer (TakesStep (turned host turn between) now [] after) (TakesStep step now before after)
       (λ going takes. subst (λ s. TakesStep s now before after going) (sym is)
-      (told_after host' now turn before front between after going texts
-      (subst (λ h. TakesStep (told h turn between) now [] after going) same takes))) given
+      (turned_after host' now turn before front between after going texts
+      (subst (λ h. TakesStep (turned h turn between) now [] after going) same takes))) given
 
 pub goes_as : (step : Stepped) (now : HostSeen) (before after : List ℕ) (host : HostSeen) (text : List ℕ) → step ≡ goes_on host text → now ≡ host
     → after ≡ before ++ text → TakesStep step now before after On

@@ -86,9 +86,9 @@ full host number = record { host = host; text = text_of_refused number why.Room;
 
 -- ---- a step of the node
 
--- the news of a step are told after this text, and then its frames sent
-abbrev pub told : HostSeen → Turn → List ℕ → Stepped
-told host turn front =
+-- after this text the news of a step are printed, and then its frames sent
+abbrev pub turned : HostSeen → Turn → List ℕ → Stepped
+turned host turn front =
     let posted = posts (host_settings host) (host.mail, front ++ text_of_news turn.news) turn.sent in
     goes_on (record host { mail = posted.0; begun = true }) posted.1
 
@@ -109,7 +109,7 @@ why_of fault.Ended = why.Room
 -- numbers.
 abbrev pub after_answer : HostSeen → HostSeen → ℕ → List ℕ → NodeValue → Result Turn NodeFault → Stepped
 after_answer before host number front node (Ok turn) =
-    if nat_le (host.mail.sent + length turn.sent) most_frames then told (with_node host node turn) turn front else full before number
+    if nat_le (host.mail.sent + length turn.sent) most_frames then turned (with_node host node turn) turn front else full before number
 after_answer before host number front node (Err cause) = refused before number (why_of cause)
 
 abbrev pub after_step : HostSeen → HostSeen → ℕ → List ℕ → Outcome → Stepped
@@ -177,7 +177,7 @@ status_word Gone = codes "gone"
 status_word Ceased = codes "ceased"
 status_word Ended = codes "ended"
 
--- what is told of a node
+-- the status of a node
 abbrev pub text_of_host : HostSeen → List ℕ
 text_of_host host =
     text_of_status (status_word (node_status (node_of host)))

@@ -2,4 +2,6 @@ pub mod Actor
 pub mod Host
 pub mod Intake
 pub mod Mail
+pub mod Run
 pub mod Status
+pub mod Taking

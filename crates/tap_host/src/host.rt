@@ -5,7 +5,7 @@ ghost use Rattle.tap_carry.specs.Outbox.{most_frames};
 ghost use Rattle.tap_wire.specs.Reading.{head_of};
 ghost use Rattle.tap_node.specs.Node.{running};
 ghost use Rattle.tap_host_line.specs.Line.{AreMembers, IsLine, IsStart};
-ghost use Rattle.tap_host.specs.Host.{HostSeen, TakesStep, at_head, at_members, at_number, at_start, full, host_line, host_seen, host_settings, new_host, refused, status_word, step_of, text_of_host, told, why_of};
+ghost use Rattle.tap_host.specs.Host.{HostSeen, TakesStep, at_head, at_members, at_number, at_start, full, host_line, host_seen, host_settings, new_host, refused, status_word, step_of, text_of_host, turned, why_of};
 
 use crate::actor::Actor;
 use crate::intake::Intake;
@@ -103,7 +103,7 @@ impl Host {
                 self.mail.put_all(out)?;
                 Ok(Going::On)
             }
-            Line::Status => self.tell(out),
+            Line::Status => self.put_status_lines(out),
         }
     }
 
@@ -215,10 +215,10 @@ impl Host {
         }
     }
 
-    // The node has taken a step: its news are told, and its frames sent.
+    // The node has taken a step: its news are printed, and its frames sent.
     fn turned(&mut self, out: &mut Vec<u8>, turn: Turn) -> Result<Going, NoMemory>
         requires { self.old.mail.sent + length turn.sent ≤ most_frames }
-        ensures { IfOk result (TakesStep (told (host_seen self.old) turn out.old.items) (host_seen self.new) [] out.new.items) }
+        ensures { IfOk result (TakesStep (turned (host_seen self.old) turn out.old.items) (host_seen self.new) [] out.new.items) }
     {
         put_news(out, &turn.news)?;
         self.begun = true;
@@ -227,8 +227,8 @@ impl Host {
         Ok(Going::On)
     }
 
-    // The node is told of.
-    fn tell(&self, out: &mut Vec<u8>) -> Result<Going, NoMemory>
+    // Prints the status of the node.
+    fn put_status_lines(&self, out: &mut Vec<u8>) -> Result<Going, NoMemory>
         ensures text { IfOk result (λ _. out.new.items ≡ out.old.items ++ text_of_host (host_seen self.now)) }
         ensures on { IfOk result (λ going. going ≡ Going.On) }
     {
@@ -266,7 +266,7 @@ fn full(out: &mut Vec<u8>, number: u64) -> Result<Going, NoMemory>
 // Why a packet is refused whose frame a node doesn't take.
 fn why_of(fault: NodeFault) -> Result<Why, NoMemory>
     ensures why { IfOk result (λ why. why ≡ why_of fault) }
-    ensures told { OnOk result (fault ≢ NodeFault.NoMemory) }
+    ensures memory { OnOk result (fault ≢ NodeFault.NoMemory) }
 {
     match fault {
         NodeFault::Wire(_) => Ok(Why::Damaged),

@@ -4,7 +4,7 @@
 //! leaves is proved: it is a function of the line and of what went before, by the rule of a node and the words of the carrier.
 //!
 //! [`run_node`] is all that a program needs: it reads the words, then line after line of a source, and writes what each brings to a sink before it
-//! reads the next. Of it no clause says more than that it is safe and returns: that it takes each line once, in order, is tested alone.
+//! takes the next. What it has written is proved to be a function of the lines that it has read, and each status to have its cause.
 #![tactic(auto)]
 
 mod actor;

@@ -1,17 +1,25 @@
-ghost use Rattle.std.specs.Prelude.{◌≡◌, ◌≤◌, [], ◌++◌, List, ℕ, length, drop, Ok, OnOk};
+ghost use Rattle.std.specs.Prelude.{◌≡◌, ◌≤◌, [], length, drop};
 ghost use Rattle.memchr.specs.Find.{IsFirstByte, is_byte};
-ghost use Rattle.std.specs.Io.KnownBytes.{Consumes, IsAtEnd};
+ghost use Rattle.tap_host.specs.Taking.{AddsRead, FindsLine, LooksAs, status_at_end};
 
 use crate::memory::NoMemory;
+use crate::status::HostStatus;
 use std::alloc::Global;
 use std::marker::Model;
 use tap_io::{Got, Source};
 
-// What was read, and no line was taken of yet. Contracts see its bytes.
+// The most bytes of a line, its end left out.
+const MOST_LINE: usize = 32_768;
+
+// The most bytes that one read gives.
+const PIECE: usize = 16_384;
+
+// What was read, and no line was taken of yet, and room for the next piece. Contracts see the bytes.
 #[derive(Drop)]
 pub(crate) struct Lines {
     bytes: Vec<u8>,
     at: usize,
+    piece: Vec<u8>,
 }
 
 impl Model for Lines {
@@ -32,6 +40,7 @@ impl Lines {
         Lines {
             bytes: Vec::new(alloc),
             at: 0,
+            piece: Vec::new(alloc),
         }
     }
 
@@ -50,17 +59,42 @@ impl Lines {
         self.at += len;
     }
 
+    // Reads on until the next line is whole, and answers its length; or why none comes.
+    pub(crate) fn find<S: Source>(&mut self, source: &mut S) -> Result<usize, HostStatus>
+        ensures { FindsLine self.old self.new (S.state source.old) (S.state source.new) result }
+    {
+        loop {
+            if let Some(len) = first_line(self.bytes())? {
+                return Ok(len);
+            }
+            match self.read_more(source)? {
+                Got::Got(_) => {}
+                Got::Failed => return Err(HostStatus::ReadFault),
+                Got::End => return Err(self.status_at_end()),
+            }
+        }
+    }
+
+    // How it ends if nothing more comes.
+    fn status_at_end(&self) -> HostStatus
+        ensures { result ≡ status_at_end self.now }
+    {
+        if self.bytes().is_empty() {
+            HostStatus::Done
+        } else {
+            HostStatus::Cut
+        }
+    }
+
     // Reads more.
-    pub(crate) fn read_more<S: Source>(&mut self, source: &mut S) -> Result<Got, NoMemory>
-        ensures more { (more : List ℕ) × Consumes (S.state source.old).left (S.state source.new).left more
-            × OnOk result (self.new ≡ self.old ++ more) }
-        ensures end { result ≡ Ok Got.End → (self.new ≡ self.old) × IsAtEnd (S.state source.new).left }
+    fn read_more<S: Source>(&mut self, source: &mut S) -> Result<Got, NoMemory>
+        ensures { AddsRead self.old self.new (S.state source.old) (S.state source.new) result }
     {
         self.drop_taken();
-        let mut piece = [0u8; 16384];
-        let got = source.read(&mut piece);
+        self.piece.resize(PIECE, 0)?;
+        let got = source.read(self.piece.as_mut_slice());
         if let Got::Got(n) = got {
-            self.bytes.extend_from_slice(&piece[..n])?;
+            self.bytes.extend_from_slice(&self.piece[..n])?;
         }
         Ok(got)
     }
@@ -76,8 +110,19 @@ impl Lines {
     }
 }
 
+// The length of the first line, if its end is there. A line that is too long has none.
+fn first_line(bytes: &[u8]) -> Result<Option<usize>, HostStatus>
+    ensures { LooksAs bytes.now result }
+{
+    let end = end_of_line(bytes);
+    if end.unwrap_or(bytes.len()) > MOST_LINE {
+        return Err(HostStatus::TooLong);
+    }
+    Ok(end)
+}
+
 // The place of the first end of a line.
-pub(crate) fn end_of_line(bytes: &[u8]) -> Option<usize>
+fn end_of_line(bytes: &[u8]) -> Option<usize>
     ensures { IsFirstByte (is_byte 10) bytes.now result }
 {
     memchr::memchr(b'\n', bytes)

@@ -1,5 +1,7 @@
 ghost use Rattle.std.specs.Prelude.{◌≡◌};
+ghost use Rattle.tap_host.specs.declared.status.HostStatus.TheVariants as status;
 
+use crate::status::HostStatus;
 use std::alloc::{AllocError, AllocFailed};
 use std::error::Error;
 use std::fmt;
@@ -46,6 +48,14 @@ impl From<tap_host_line::NoMemory> for NoMemory {
 impl From<tap_node::NoMemory> for NoMemory {
     fn from(_: tap_node::NoMemory) -> NoMemory {
         NoMemory
+    }
+}
+
+impl From<NoMemory> for HostStatus {
+    ghost from_gives = { λ _ given. given ≡ status.NoMemory };
+
+    fn from(_: NoMemory) -> HostStatus {
+        HostStatus::NoMemory
     }
 }
 

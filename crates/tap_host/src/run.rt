@@ -1,19 +1,21 @@
-ghost use Rattle.std.specs.Prelude.{Some};
-ghost use Rattle.memchr.specs.Find.{IsFirstByte, is_byte};
+ghost use Rattle.std.specs.Prelude.{◌≡◌, [], drop, map, take, None, ◌+◌};
+ghost use Rattle.std.specs.String.{string_bytes};
+ghost use Rattle.tap_host_line.specs.Words.{asked_by};
+ghost use Rattle.tap_host.specs.Host.{host_line, host_seen};
+ghost use Rattle.tap_host.specs.Run.{HasRunAsked, HasServed};
+ghost use Rattle.tap_host.specs.Taking.{IsFirstLine, TakesLine};
 
 use crate::host::{Going, Host};
-use crate::lines::{Lines, end_of_line};
+use crate::lines::Lines;
 use crate::memory::NoMemory;
 use crate::status::HostStatus;
 use std::alloc::Global;
 use tap_host_line::{WordsRefusal, read_words};
-use tap_io::{Got, Sink, Source};
+use tap_io::{Sink, Source};
 use tap_report::{Written, write_text};
 
-// The most bytes of a line, its end left out.
-const MOST_LINE: usize = 32_768;
-
-/// Runs one node: reads the words, then line after line of a source, and writes the lines that each brings to a sink before it reads on.
+/// Runs one node: reads the words, then line after line of a source, and writes the lines that each brings to a sink before it takes the next.
+/// A line has at most 32,768 bytes before its end. The status says why it ends; if the words are refused, nothing is read or written.
 ///
 /// Rule: docs/NETWORK.md, "The process of a node".
 pub fn run_node<S: Source, K: Sink>(
@@ -21,7 +23,10 @@ pub fn run_node<S: Source, K: Sink>(
     words: &Vec<String>,
     source: &mut S,
     sink: &mut K,
-) -> HostStatus {
+) -> HostStatus
+    ensures { HasRunAsked (asked_by (map string_bytes words.now.items)) (S.state source.old) (S.state source.new)
+        (K.state sink.old) (K.state sink.new) result }
+{
     let asked = match read_words(alloc, words.as_slice()) {
         Ok(asked) => asked,
         Err(WordsRefusal::Usage) => return HostStatus::Usage,
@@ -39,11 +44,12 @@ fn run_host<S: Source, K: Sink>(
     host: Host,
     source: &mut S,
     sink: &mut K,
-) -> HostStatus {
+) -> HostStatus
+    ensures { HasServed (host_seen host) (S.state source.old) (S.state source.new) (K.state sink.old) (K.state sink.new) result }
+{
     let mut run = Run {
         host,
         lines: Lines::new(alloc),
-        number: 0,
         out: Vec::new(alloc),
     };
     let status = run.to_end(source, sink);
@@ -52,53 +58,42 @@ fn run_host<S: Source, K: Sink>(
     status
 }
 
-// A node, what was read of its lines, how many it has taken, and the lines that the last one brought.
+// A node, what was read of its lines, and the lines that the last one brought.
 #[derive(Drop)]
 pub(crate) struct Run {
     host: Host,
     lines: Lines,
-    number: u64,
     out: Vec<u8>,
 }
 
 impl Run {
-    // Takes lines to the end.
-    fn to_end<S: Source, K: Sink>(&mut self, source: &mut S, sink: &mut K) -> HostStatus {
-        for _turn in 0..u64::MAX {
-            if let Some(status) = self.turn(source, sink) {
+    // Takes lines to the end. There are no more numbers than this for them.
+    fn to_end<S: Source, K: Sink>(&mut self, source: &mut S, sink: &mut K) -> HostStatus
+        requires { self.old.lines ≡ [] }
+        ensures { HasServed (host_seen self.old.host) (S.state source.old) (S.state source.new) (K.state sink.old) (K.state sink.new) result }
+    {
+        for before in 0..u64::MAX {
+            let len = match self.lines.find(source) {
+                Ok(len) => len,
+                Err(status) => return status,
+            };
+            if let Some(status) = self.take(len, before + 1, sink) {
                 return status;
             }
         }
         HostStatus::NoRoom
     }
 
-    // Takes the next line, or reads more; the status if it ends.
-    fn turn<S: Source, K: Sink>(&mut self, source: &mut S, sink: &mut K) -> Option<HostStatus> {
-        let bytes = self.lines.bytes();
-        match end_of_line(bytes) {
-            Some(len) => {
-                if len > MOST_LINE {
-                    return Some(HostStatus::TooLong);
-                }
-                self.take(len, sink)
-            }
-            None => {
-                if bytes.len() > MOST_LINE {
-                    return Some(HostStatus::TooLong);
-                }
-                self.read(source)
-            }
-        }
-    }
-
-    // Takes the first line, of this length.
-    fn take<K: Sink>(&mut self, len: usize, sink: &mut K) -> Option<HostStatus>
-        requires { IsFirstByte (is_byte 10) self.old.lines (Some len) }
+    // Takes the first line, of this length, by its number; the status if the run ends.
+    fn take<K: Sink>(&mut self, len: usize, number: u64, sink: &mut K) -> Option<HostStatus>
+        requires { IsFirstLine self.old.lines len }
+        ensures takes { TakesLine (host_line (host_seen self.old.host) number (take len self.old.lines))
+            (host_seen self.new.host) (K.state sink.old) (K.state sink.new) result }
+        ensures rest { result ≡ None → self.new.lines ≡ drop (len + 1) self.old.lines }
     {
         self.out.clear();
-        self.number = self.number.saturating_add(1);
         let line = &self.lines.bytes()[..len];
-        let going = match self.host.line(&mut self.out, self.number, line) {
+        let going = match self.host.line(&mut self.out, number, line) {
             Ok(going) => going,
             Err(NoMemory) => return Some(HostStatus::NoMemory),
         };
@@ -109,21 +104,6 @@ impl Run {
                 Going::On => None,
                 Going::Full => Some(HostStatus::NoRoom),
             },
-        }
-    }
-
-    // Reads more.
-    fn read<S: Source>(&mut self, source: &mut S) -> Option<HostStatus> {
-        match self.lines.read_more(source) {
-            Ok(Got::Got(_)) => None,
-            Ok(Got::Failed) => Some(HostStatus::ReadFault),
-            Ok(Got::End) => {
-                if self.lines.bytes().is_empty() {
-                    return Some(HostStatus::Done);
-                }
-                Some(HostStatus::Cut)
-            }
-            Err(NoMemory) => Some(HostStatus::NoMemory),
         }
     }
 }

@@ -18,7 +18,7 @@ pub enum HostStatus {
     Cut,
     /// A write failed.
     WriteFault,
-    /// The node has no room for one more step.
+    /// The node has no room for one more step, or 2^64 - 1 lines were taken.
     NoRoom,
     /// Memory was refused.
     NoMemory,

@@ -9,7 +9,7 @@ use Rattle.tap_host.specs.Host.{refused, with_node, with_taken}
 use Rattle.tap_host.specs.Intake.{has_taken}
 use Rattle.tap_host.specs.Mail.{mail_seen}
 use Rattle.tap_host.proofs.Entering.{not_false, not_true}
-use Rattle.tap_host.proofs.Steps.{acted_host, after_fault, after_full, after_turn, fault_answer, fills_as, goes_as, number_again, number_full, number_steps, refuses_as, same_taken, seen_host, taken_again, taken_back, taken_now, tells_as, there, turn_answer}
+use Rattle.tap_host.proofs.Steps.{acted_host, after_fault, after_full, after_turn, fault_answer, fills_as, goes_as, number_again, number_full, number_steps, refuses_as, same_taken, seen_host, taken_again, taken_back, taken_now, turns_as, there, turn_answer}
 use Rattle.tap_host.proofs.host.Host.numbered.Goals as goal
 
 pub returns-then-not-branch : goal.returns-then-not-branch
@@ -99,7 +99,7 @@ returns-in_ok-put_ack-in-Ok c =
     let h = seen_host a m i0 b in
     let below = c.take.ensures.below ∙ ap (below_given a.casts_below) c.in-Ok.is in
     rw (← c.self.view_is)
-    (tells_as c.turned.result _ _ _ _ (seen_host x m i1 b) (with_node (with_taken h from seq) x.node turn) turn (text_of_ack from seq)
+    (turns_as c.turned.result _ _ _ _ (seen_host x m i1 b) (with_node (with_taken h from seq) x.node turn) turn (text_of_ack from seq)
     c.put_ack-in-Ok.new.out.items
     (number_steps a m i0 b number from seq frame taken room
     ∙ after_turn h (with_taken h from seq) number (text_of_ack from seq) (take_outcome a.node frame) x.node turn given.0 given.1 numbers)
@@ -125,7 +125,7 @@ returns-in_ok-give_back-in-Err c =
     let fault = c.in-Err.fault in
     let h = seen_host a m i0 b in
     let given = fault_answer (take_outcome a.node frame) a.node x.node c.take.result fault c.take.ensures.node c.in-Err.is
-    c.in_ok-why-in-Err.ensures.told in
+    c.in_ok-why-in-Err.ensures.memory in
     let node = given.1 ∙ same_taken a.node fault frame given.0 in
     let below = c.take.ensures.below ∙ ap (below_given a.casts_below) c.in-Err.is in
     rw (← c.self.view_is)

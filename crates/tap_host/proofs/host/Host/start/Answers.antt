@@ -9,7 +9,7 @@ use Rattle.tap_host.specs.Actor.{below_given, has_start, is_new, start_of}
 use Rattle.tap_host.specs.Host.{with_node}
 use Rattle.tap_host.specs.Intake.{has_taken}
 use Rattle.tap_host.proofs.Kept.{runs_if, start_wants}
-use Rattle.tap_host.proofs.Steps.{acted_host, after_full, after_turn, fills_as, refuses_as, seen_host, start_full, start_none, start_old, start_steps, tells_as, turn_answer}
+use Rattle.tap_host.proofs.Steps.{acted_host, after_full, after_turn, fills_as, refuses_as, seen_host, start_full, start_none, start_old, start_steps, turns_as, turn_answer}
 use Rattle.tap_host.proofs.host.Host.start.Goals as goal
 
 pub returns-then-not-has_start : goal.returns-then-not-has_start
@@ -107,7 +107,7 @@ returns c =
     let turn = c.in-Ok.turn in
     let below = c.begin.ensures.below ∙ ap (below_given a.casts_below) c.in-Ok.is in
     rw (← c.self.view_is)
-    (tells_as c.turned.result _ _ _ _ (seen_host x m i0 b) (with_node h x.node turn) turn text_of_begun c.put_begun.new.out.items
+    (turns_as c.turned.result _ _ _ _ (seen_host x m i0 b) (with_node h x.node turn) turn text_of_begun c.put_begun.new.out.items
     (start_steps a m i0 b number start there new room
     ∙ after_turn h h number text_of_begun (start_outcome a.node (start_of start)) x.node turn given.0 given.1 numbers)
     (acted_host a x m i0 i0 b (has_taken i0) turn below refl)
