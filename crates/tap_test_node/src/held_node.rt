@@ -211,10 +211,10 @@ pub(crate) fn caster(
     cast: [&str; 3],
     members: &[&str],
 ) -> Result<Option<(HeldNode, Answer)>> {
-    let Some(mut node) = HeldNode::member(alloc, settings, name, members)? else {
+    let (Ok(number), Ok(level)) = (cast[0].parse::<u32>(), cast[1].parse::<u8>()) else {
         return Ok(None);
     };
-    let (Ok(number), Ok(level)) = (cast[0].parse::<u32>(), cast[1].parse::<u8>()) else {
+    let Some(mut node) = HeldNode::member(alloc, settings, name, members)? else {
         return Ok(None);
     };
     match node.casts(number, level, cast[2]) {

@@ -32,8 +32,13 @@ use tap_name::Settings;
 fn main(rt: HostRuntime) -> Result<()> {
     let settings = Settings::new(2, 1, 1).context("the settings")?;
     let mut system = System::new(rt.alloc(), settings);
+    run(&rt, &mut system)
+}
+
+// Does what the lines say, one after another.
+fn run(rt: &HostRuntime, system: &mut System) -> Result<()> {
     for line in rt.lines(rt.alloc()) {
-        lines::follow(&rt, &mut system, line?.as_str())?;
+        lines::follow(rt, system, line?.as_str())?;
     }
     Ok(())
 }

@@ -12,6 +12,8 @@ mod join;
 #[cfg(test)]
 mod multicast;
 #[cfg(test)]
+mod names;
+#[cfg(test)]
 mod pointer;
 #[cfg(test)]
 mod surrogate;

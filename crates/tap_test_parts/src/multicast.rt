@@ -1,12 +1,12 @@
 ghost use Rattle.std.specs.Prelude.{◌≡◌, All, true};
-ghost use Rattle.tap_name.specs.Name.{IsName};
 ghost use Rattle.tap_multicast.specs.Covers.{MayCover, MayWatch};
 
+use crate::names::{name_of, put, put_digit, put_name, settings_of};
 use std::alloc::Global;
 use std::process::Abort;
 use tap_link::Kind;
 use tap_multicast::{Covered, Covers, Target};
-use tap_name::{List, Name, Offered, Settings, Slot, read_name, text_of_digit};
+use tap_name::{List, Name, Offered, Slot};
 use tap_table::Table;
 use tap_watch::Watch;
 
@@ -225,21 +225,9 @@ const FURTHER: [Further; 2] = [
     },
 ];
 
-// The settings of names with three digits in base 4.
-fn settings_of(rt: &impl Abort) -> Settings {
-    Settings::new(4, 3, 2).expect(rt, "settings")
-}
-
-// The name of a text.
-fn name_of(rt: &impl Abort, settings: &Settings, text: &str) -> Name
-    ensures { IsName settings.now result }
-{
-    read_name(settings, text.as_bytes()).expect(rt, "a name")
-}
-
 // The table of a node without links.
 fn table_of(rt: &impl Abort, alloc: Global, owner: &str) -> Table {
-    let settings = settings_of(rt);
+    let settings = settings_of(rt, 4, 3, 2);
     let owner = name_of(rt, &settings, owner);
     Table::new(alloc, owner, &settings).expect(rt, "memory")
 }
@@ -278,7 +266,7 @@ fn settle_all(rt: &impl Abort, table: &mut Table, names: &str) {
 
 // The full watch of a joiner with this prefix.
 fn watch_of(rt: &impl Abort, alloc: Global, joiner: &str, prefix: u8) -> Watch {
-    let settings = settings_of(rt);
+    let settings = settings_of(rt, 4, 3, 2);
     let joiner = name_of(rt, &settings, joiner);
     assert!(rt; prefix < settings.digits());
     Watch::full(alloc, &joiner, &settings, prefix as usize).expect(rt, "memory")
@@ -322,7 +310,7 @@ struct Word {
 // A word of the joiner of a text.
 fn word_of(rt: &impl Abort, joiner: &str, prefix: u8, level: u8) -> Word {
     Word {
-        joiner: name_of(rt, &settings_of(rt), joiner),
+        joiner: name_of(rt, &settings_of(rt, 4, 3, 2), joiner),
         prefix,
         level,
     }
@@ -411,6 +399,7 @@ fn put_start(rt: &impl Abort, text: &mut Vec<u8>, first: bool) {
 fn put_offer(rt: &impl Abort, text: &mut Vec<u8>, offer: &List<Offered>) {
     put(rt, text, b"offer");
     for link in offer.as_slice() {
+        put(rt, text, b" ");
         put_name(rt, text, &link.name);
         if link.settled {
             put(rt, text, b"+");
@@ -422,6 +411,7 @@ fn put_offer(rt: &impl Abort, text: &mut Vec<u8>, offer: &List<Offered>) {
 fn put_targets(rt: &impl Abort, text: &mut Vec<u8>, targets: &List<Target>) {
     put(rt, text, b", tell");
     for target in targets.as_slice() {
+        put(rt, text, b" ");
         put_name(rt, text, &target.to);
         put(rt, text, b"@");
         put_digit(rt, text, target.level);
@@ -436,25 +426,6 @@ fn put_left(rt: &impl Abort, text: &mut Vec<u8>, left: &Watch) {
         put_digit(rt, text, slot.level);
         put_digit(rt, text, slot.digit);
     }
-}
-
-// A name after a blank.
-fn put_name(rt: &impl Abort, text: &mut Vec<u8>, name: &Name) {
-    put(rt, text, b" ");
-    for at in 0..name.len() {
-        put_digit(rt, text, name.digit(at));
-    }
-}
-
-// A digit below 16.
-fn put_digit(rt: &impl Abort, text: &mut Vec<u8>, digit: u8) {
-    assert!(rt; digit < 16);
-    text.push(text_of_digit(digit)).expect(rt, "memory");
-}
-
-// Bytes as they are.
-fn put(rt: &impl Abort, text: &mut Vec<u8>, bytes: &[u8]) {
-    text.extend_from_slice(bytes).expect(rt, "memory");
 }
 
 // A node with some links, which has pinned the joiner too, takes the first word of it.
@@ -490,7 +461,7 @@ fn check_further(rt: &impl Abort, alloc: Global, case: &Further) {
         let word = word_of(rt, case.joiner, case.prefix, *level);
         check_given(rt, alloc, &mut covers, &table, &word, &watch, wanted);
     }
-    let joiner = name_of(rt, &settings_of(rt), case.joiner);
+    let joiner = name_of(rt, &settings_of(rt, 4, 3, 2), case.joiner);
     assert!(rt; covers.level_of(joiner) == Some(case.prefix));
 }
 

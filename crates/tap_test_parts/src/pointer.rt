@@ -1,11 +1,13 @@
-ghost use Rattle.std.specs.Prelude.{◌≡◌, ◌≤◌, length, IfOk, OnOk};
+ghost use Rattle.std.specs.Prelude.{◌≡◌, ◌≢◌, ◌≤◌, length};
 ghost use Rattle.tap_name.specs.Name.{IsName};
-ghost use Rattle.tap_pointer.specs.Reconcile.{AreLaid, AreLaidBut, AreNamesHeld};
+ghost use Rattle.tap_table.specs.Table.{offered};
+ghost use Rattle.tap_pointer.specs.Pointers.{held_or_laid_count};
+ghost use Rattle.tap_pointer.specs.Reconcile.{AreLaid, AreLaidBeside, AreLaidBut, AreNamesHeld};
 
+use crate::names::{name_of, put, put_digit, put_name, settings_of};
 use std::alloc::Global;
 use std::process::Abort;
-use std::test::Fail;
-use tap_name::{List, Name, Settings, read_name, text_of_digit};
+use tap_name::{List, Name};
 use tap_pointer::{Lay, Pair, Pointers};
 use tap_register::Stamp;
 use tap_table::Table;
@@ -14,9 +16,8 @@ use tap_table::Table;
 enum Act {
     Publish(&'static str),
     Withdraw(&'static str),
-    // A Lay is taken that is on, or one that is off: the sender, the object and the server, the level and the version.
-    On(&'static str, (&'static str, &'static str), u8, u32),
-    Off(&'static str, (&'static str, &'static str), u8, u32),
+    // A Lay is taken: whether it is on, the sender, the object and the server, the level and the version.
+    Lay(bool, &'static str, (&'static str, &'static str), u8, u32),
     // A settled link is added.
     Link(&'static str),
     Replace {
@@ -26,7 +27,7 @@ enum Act {
 }
 
 // How the pairs are laid as wanted after an act: all are looked at, or the one that it touched, which is one call with the act if
-// this is a Lay.
+// this is a Lay. After a link was added, all are looked at, or those alone whose way passes its level.
 #[derive(Clone, Copy, PartialEq)]
 enum Mode {
     Whole,
@@ -66,9 +67,15 @@ const CASES: [Case; 6] = [
         width: 2,
         links: "000 012 233 301",
         acts: &[
-            (Act::On("301", ("123", "301"), 1, 1), "+233@3 123/301 1"),
-            (Act::Off("301", ("123", "301"), 1, 2), "-233@3 123/301 2"),
-            (Act::On("301", ("123", "301"), 1, 1), ""),
+            (
+                Act::Lay(true, "301", ("123", "301"), 1, 1),
+                "+233@3 123/301 1",
+            ),
+            (
+                Act::Lay(false, "301", ("123", "301"), 1, 2),
+                "-233@3 123/301 2",
+            ),
+            (Act::Lay(true, "301", ("123", "301"), 1, 1), ""),
         ],
         cleared: "",
     },
@@ -78,11 +85,17 @@ const CASES: [Case; 6] = [
         width: 2,
         links: "000 012 301",
         acts: &[
-            (Act::On("301", ("123", "301"), 1, 1), ""),
-            (Act::On("012", ("123", "012"), 1, 1), ""),
+            (Act::Lay(true, "301", ("123", "301"), 1, 1), ""),
+            (Act::Lay(true, "012", ("123", "012"), 1, 1), ""),
             (Act::Link("233"), "+233@3 123/012 1, +233@3 123/301 2"),
-            (Act::Off("012", ("123", "012"), 1, 2), "-233@3 123/012 3"),
-            (Act::Off("301", ("123", "301"), 1, 2), "-233@3 123/301 4"),
+            (
+                Act::Lay(false, "012", ("123", "012"), 1, 2),
+                "-233@3 123/012 3",
+            ),
+            (
+                Act::Lay(false, "301", ("123", "301"), 1, 2),
+                "-233@3 123/301 4",
+            ),
         ],
         cleared: "",
     },
@@ -109,17 +122,23 @@ const CASES: [Case; 6] = [
         width: 2,
         links: "003 012 100",
         acts: &[
-            (Act::On("001", ("113", "222"), 3, 5), ""),
-            (Act::On("033", ("113", "222"), 2, 1), "+003@3 113/222 1"),
+            (Act::Lay(true, "001", ("113", "222"), 3, 5), ""),
             (
-                Act::On("300", ("113", "222"), 1, 9),
+                Act::Lay(true, "033", ("113", "222"), 2, 1),
+                "+003@3 113/222 1",
+            ),
+            (
+                Act::Lay(true, "300", ("113", "222"), 1, 9),
                 "-003@3 113/222 2, +012@2 113/222 3",
             ),
             (
-                Act::Off("300", ("113", "222"), 1, 10),
+                Act::Lay(false, "300", ("113", "222"), 1, 10),
                 "-012@2 113/222 4, +003@3 113/222 5",
             ),
-            (Act::Off("033", ("113", "222"), 2, 2), "-003@3 113/222 6"),
+            (
+                Act::Lay(false, "033", ("113", "222"), 2, 2),
+                "-003@3 113/222 6",
+            ),
         ],
         cleared: "",
     },
@@ -149,72 +168,30 @@ const CASES: [Case; 6] = [
     },
 ];
 
-// All pairs are looked at after each act, and in a second run the one alone that the act touched. In a third run a Lay is taken and
+// All pairs are looked at after each act, and in a second run those alone that the act touched. In a third run a Lay is taken and
 // its pair laid in one call. Reconciled once more, be it all or what passes a level, the node sends nothing.
 #[test]
-fn lays_go_from_the_old_hop_to_the_new_one(rt: HostRuntime) -> Result<(), Fail> {
+fn lays_go_from_the_old_hop_to_the_new_one(rt: HostRuntime) {
     for case in CASES.iter() {
         for mode in &[Mode::Whole, Mode::Pair, Mode::Once] {
-            check(&rt, rt.alloc(), case, *mode)?;
+            check(&rt, rt.alloc(), case, *mode);
         }
     }
-    Ok(())
 }
 
-fn check(rt: &impl Abort, alloc: Global, case: &Case, mode: Mode) -> Result<(), Fail> {
-    let settings = Settings::new(4, 3, case.width).ok_or("settings")?;
-    let owner = read_name(&settings, case.owner.as_bytes())?;
-    let mut table = table_of(alloc, &settings, owner, case.links)?;
+fn check(rt: &impl Abort, alloc: Global, case: &Case, mode: Mode) {
+    let settings = settings_of(rt, 4, 3, case.width);
+    let owner = name_of(rt, &settings, case.owner);
+    let mut table = Table::new(alloc, owner, &settings).expect(rt, "memory");
+    link_all(rt, &mut table, case.links);
     let mut pointers = pointers_of(alloc, &table);
     let mut stamp = Stamp::new();
     for (act, wanted) in case.acts.iter() {
-        let lays = play(&mut pointers, &mut table, &mut stamp, act, mode)?;
-        check_lays(rt, alloc, &lays, wanted)?;
-        check_settled(rt, alloc, &mut pointers, &table, &mut stamp)?;
+        let lays = play(rt, &mut pointers, &mut table, &mut stamp, act, mode);
+        check_lays(rt, alloc, lays, wanted);
+        check_settled(rt, alloc, &mut pointers, &table, &mut stamp);
     }
-    let lays = clear(&mut pointers, &mut stamp)?;
-    check_lays(rt, alloc, &lays, case.cleared)?;
-    assert_eq!(rt; pointers.span(), 0);
-    Ok(())
-}
-
-// Reconciled once more, be it all or what passes level 1, the node sends nothing.
-fn check_settled(
-    rt: &impl Abort,
-    alloc: Global,
-    pointers: &mut Pointers,
-    table: &Table,
-    stamp: &mut Stamp,
-) -> Result<(), Fail>
-    requires owner { table.now.owner ≡ pointers.old.owner }
-    requires names { AreNamesHeld table.now.settings pointers.old }
-    ensures owner { OnOk result (table.now.owner ≡ pointers.new.owner) }
-    ensures names { OnOk result (AreNamesHeld table.now.settings pointers.new) }
-    ensures laid { OnOk result (AreLaid table.now pointers.new) }
-{
-    let more = reconcile(pointers, table, stamp)?;
-    check_lays(rt, alloc, &more, "")?;
-    let more = reconcile_at(pointers, table, stamp, 1)?;
-    check_lays(rt, alloc, &more, "")
-}
-
-fn check_lays(rt: &impl Abort, alloc: Global, lays: &List<Lay>, wanted: &str) -> Result<(), Fail> {
-    let text = text_of(alloc, lays)?;
-    assert_eq!(rt; text.as_slice(), wanted.as_bytes(), "{wanted}");
-    Ok(())
-}
-
-// The table of a node with settled links.
-fn table_of(alloc: Global, settings: &Settings, owner: Name, links: &str) -> Result<Table, Fail>
-    requires { IsName settings.now owner }
-{
-    let mut table = Table::new(alloc, owner, settings)?;
-    if !links.is_empty() {
-        for name in links.split(' ') {
-            link(&mut table, name)?;
-        }
-    }
-    Ok(table)
+    check_cleared(rt, alloc, &mut pointers, &mut stamp, case.cleared);
 }
 
 // The pointers of a node that knows of no pair.
@@ -226,385 +203,490 @@ fn pointers_of(alloc: Global, table: &Table) -> Pointers
     Pointers::new(alloc, table.owner())
 }
 
-fn read_pair(settings: &Settings, pair: (&str, &str)) -> Result<Pair, Fail>
-    ensures { IfOk result (λ pair. IsName settings.now pair.object) }
-{
-    let (object, server) = pair;
-    Ok(Pair {
-        object: read_name(settings, object.as_bytes())?,
-        server: read_name(settings, server.as_bytes())?,
-    })
+// Compares Lays with a text.
+fn check_lays(rt: &impl Abort, alloc: Global, lays: List<Lay>, wanted: &str) {
+    let text = text_of(rt, alloc, &lays);
+    assert!(rt; text.as_slice() == wanted.as_bytes(), "{wanted}");
 }
 
-// Adds a settled link.
-fn link(table: &mut Table, name: &str) -> Result<(), Fail>
-    ensures owner { OnOk result (table.new.owner ≡ table.old.owner) }
-    ensures settings { OnOk result (table.new.settings ≡ table.old.settings) }
+// Reconciled once more, be it all or what passes level 1, the node sends nothing.
+fn check_settled(
+    rt: &impl Abort,
+    alloc: Global,
+    pointers: &mut Pointers,
+    table: &Table,
+    stamp: &mut Stamp,
+)
+    requires owner { table.now.owner ≡ pointers.old.owner }
+    requires names { AreNamesHeld table.now.settings pointers.old }
+    ensures owner { table.now.owner ≡ pointers.new.owner }
+    ensures names { AreNamesHeld table.now.settings pointers.new }
+    ensures laid { AreLaid table.now pointers.new }
 {
-    let settings = table.settings();
-    let name = read_name(&settings, name.as_bytes())?;
-    if name == table.owner() {
-        return Err("the owner")?;
-    }
-    table.offer(name)?;
-    Ok(())
+    check_lays(rt, alloc, reconcile(rt, pointers, table, stamp), "");
+    check_lays(rt, alloc, reconcile_at(rt, pointers, table, stamp, 1), "");
 }
 
-// Does what an act says, and then reconciles all pairs, or the one that it touched.
+// The node clears, and knows of no pair then.
+fn check_cleared(
+    rt: &impl Abort,
+    alloc: Global,
+    pointers: &mut Pointers,
+    stamp: &mut Stamp,
+    wanted: &str,
+) {
+    check_room(rt, pointers, stamp);
+    let lays = pointers.clear(stamp).expect(rt, "memory");
+    check_lays(rt, alloc, lays, wanted);
+    assert!(rt; pointers.span() == 0);
+}
+
+// There are few pairs, and few Lays were sent.
+fn check_room(rt: &impl Abort, pointers: &Pointers, stamp: &Stamp)
+    ensures numbers { stamp.now ≤ 1000 }
+    ensures pairs { held_or_laid_count pointers.now.pairs ≤ 1000 }
+{
+    assert!(rt; stamp.last() <= 1000);
+    assert!(rt; pointers.span() <= 1000);
+}
+
+// Does what an act says, and then reconciles all pairs, or those that it touched.
 fn play(
+    rt: &impl Abort,
     pointers: &mut Pointers,
     table: &mut Table,
     stamp: &mut Stamp,
     act: &Act,
     mode: Mode,
-) -> Result<List<Lay>, Fail>
+) -> List<Lay>
     requires owner { table.old.owner ≡ pointers.old.owner }
     requires names { AreNamesHeld table.old.settings pointers.old }
     requires laid { AreLaid table.old pointers.old }
-    ensures owner { OnOk result (table.new.owner ≡ pointers.new.owner) }
-    ensures names { OnOk result (AreNamesHeld table.new.settings pointers.new) }
-    ensures laid { OnOk result (AreLaid table.new pointers.new) }
+    ensures owner { table.new.owner ≡ pointers.new.owner }
+    ensures names { AreNamesHeld table.new.settings pointers.new }
+    ensures laid { AreLaid table.new pointers.new }
 {
-    let settings = table.settings();
     match act {
-        Act::Publish(object) => {
-            let object = read_name(&settings, object.as_bytes())?;
-            publish(pointers, table, stamp, object, mode)
+        Act::Publish(object) => publish(rt, pointers, table, stamp, object, mode),
+        Act::Withdraw(object) => withdraw(rt, pointers, table, stamp, object, mode),
+        Act::Lay(on, from, pair, level, version) => {
+            let word = word_of(rt, table, *on, from, *pair, *level, *version);
+            take(rt, pointers, table, stamp, &word, mode)
         }
-        Act::Withdraw(object) => {
-            let object = read_name(&settings, object.as_bytes())?;
-            withdraw(pointers, table, stamp, object, mode)
-        }
-        Act::On(from, pair, level, version) => {
-            let from = read_name(&settings, from.as_bytes())?;
-            let pair = read_pair(&settings, *pair)?;
-            take(
-                pointers, table, stamp, from, pair, *level, *version, true, mode,
-            )
-        }
-        Act::Off(from, pair, level, version) => {
-            let from = read_name(&settings, from.as_bytes())?;
-            let pair = read_pair(&settings, *pair)?;
-            take(
-                pointers, table, stamp, from, pair, *level, *version, false, mode,
-            )
-        }
-        Act::Link(name) => {
-            link(table, name)?;
-            reconcile(pointers, table, stamp)
-        }
+        Act::Link(name) => link(rt, pointers, table, stamp, name, mode),
         Act::Replace {
             leaver,
             replacement,
         } => {
-            let leaver = read_name(&settings, leaver.as_bytes())?;
-            if leaver == table.owner() {
-                return Err("the owner")?;
-            }
-            table.mark_leaving(leaver);
-            link(table, replacement)?;
-            reconcile(pointers, table, stamp)
+            replace(rt, table, leaver, replacement);
+            reconcile(rt, pointers, table, stamp)
         }
     }
 }
 
 fn publish(
+    rt: &impl Abort,
     pointers: &mut Pointers,
     table: &Table,
     stamp: &mut Stamp,
-    object: Name,
+    object: &str,
     mode: Mode,
-) -> Result<List<Lay>, Fail>
+) -> List<Lay>
     requires owner { table.now.owner ≡ pointers.old.owner }
-    requires name { IsName table.now.settings object }
     requires names { AreNamesHeld table.now.settings pointers.old }
     requires laid { AreLaid table.now pointers.old }
-    ensures owner { OnOk result (table.now.owner ≡ pointers.new.owner) }
-    ensures names { OnOk result (AreNamesHeld table.now.settings pointers.new) }
-    ensures laid { OnOk result (AreLaid table.now pointers.new) }
+    ensures owner { table.now.owner ≡ pointers.new.owner }
+    ensures names { AreNamesHeld table.now.settings pointers.new }
+    ensures laid { AreLaid table.now pointers.new }
 {
-    pointers.publish(object)?;
+    let object = name_of(rt, &table.settings(), object);
+    let _ = pointers.publish(object).expect(rt, "memory");
     let server = pointers.owner();
-    settle(pointers, table, stamp, Pair { object, server }, mode)
+    settle(rt, pointers, table, stamp, Pair { object, server }, mode)
 }
 
 fn withdraw(
+    rt: &impl Abort,
     pointers: &mut Pointers,
     table: &Table,
     stamp: &mut Stamp,
-    object: Name,
+    object: &str,
     mode: Mode,
-) -> Result<List<Lay>, Fail>
+) -> List<Lay>
     requires owner { table.now.owner ≡ pointers.old.owner }
-    requires name { IsName table.now.settings object }
     requires names { AreNamesHeld table.now.settings pointers.old }
     requires laid { AreLaid table.now pointers.old }
-    ensures owner { OnOk result (table.now.owner ≡ pointers.new.owner) }
-    ensures names { OnOk result (AreNamesHeld table.now.settings pointers.new) }
-    ensures laid { OnOk result (AreLaid table.now pointers.new) }
+    ensures owner { table.now.owner ≡ pointers.new.owner }
+    ensures names { AreNamesHeld table.now.settings pointers.new }
+    ensures laid { AreLaid table.now pointers.new }
 {
+    let object = name_of(rt, &table.settings(), object);
     pointers.withdraw(object);
     let server = pointers.owner();
-    settle(pointers, table, stamp, Pair { object, server }, mode)
+    settle(rt, pointers, table, stamp, Pair { object, server }, mode)
 }
 
-fn take(
-    pointers: &mut Pointers,
-    table: &Table,
-    stamp: &mut Stamp,
+// A Lay that a node is sent.
+#[derive(Clone, Copy)]
+struct Word {
     from: Name,
     pair: Pair,
     level: u8,
     version: u32,
     on: bool,
+}
+
+fn word_of(
+    rt: &impl Abort,
+    table: &Table,
+    on: bool,
+    from: &str,
+    pair: (&str, &str),
+    level: u8,
+    version: u32,
+) -> Word
+    ensures name { IsName table.now.settings result.pair.object }
+    ensures from { 1 ≤ result.level }
+    ensures to { result.level ≤ length result.pair.object }
+{
+    let settings = table.settings();
+    let (object, server) = pair;
+    let object = name_of(rt, &settings, object);
+    let server = name_of(rt, &settings, server);
+    assert!(rt; 1 <= level);
+    assert!(rt; level as usize <= object.len());
+    Word {
+        from: name_of(rt, &settings, from),
+        pair: Pair { object, server },
+        level,
+        version,
+        on,
+    }
+}
+
+// Takes a Lay, and lays its pair as wanted, in one call or in two.
+fn take(
+    rt: &impl Abort,
+    pointers: &mut Pointers,
+    table: &Table,
+    stamp: &mut Stamp,
+    word: &Word,
     mode: Mode,
-) -> Result<List<Lay>, Fail>
+) -> List<Lay>
     requires owner { table.now.owner ≡ pointers.old.owner }
-    requires name { IsName table.now.settings pair.object }
+    requires name { IsName table.now.settings word.now.pair.object }
+    requires from { 1 ≤ word.now.level }
+    requires to { word.now.level ≤ length word.now.pair.object }
     requires names { AreNamesHeld table.now.settings pointers.old }
     requires laid { AreLaid table.now pointers.old }
-    ensures owner { OnOk result (table.now.owner ≡ pointers.new.owner) }
-    ensures names { OnOk result (AreNamesHeld table.now.settings pointers.new) }
-    ensures laid { OnOk result (AreLaid table.now pointers.new) }
+    ensures owner { table.now.owner ≡ pointers.new.owner }
+    ensures names { AreNamesHeld table.now.settings pointers.new }
+    ensures laid { AreLaid table.now pointers.new }
 {
-    let Pair { object, server } = pair;
-    if level < 1 || object.len() < level as usize {
-        return Err("a level")?;
-    }
     if mode == Mode::Once {
-        return take_once(pointers, table, stamp, from, pair, level, version, on);
+        return take_once(rt, pointers, table, stamp, word);
     }
-    pointers.apply_lay(from, object, server, level, version, on)?;
-    settle(pointers, table, stamp, pair, mode)
+    let Pair { object, server } = word.pair;
+    let _ = pointers
+        .apply_lay(word.from, object, server, word.level, word.version, word.on)
+        .expect(rt, "memory");
+    settle(rt, pointers, table, stamp, word.pair, mode)
 }
 
 // Takes a Lay and lays its pair as wanted, in one call.
 fn take_once(
+    rt: &impl Abort,
     pointers: &mut Pointers,
     table: &Table,
     stamp: &mut Stamp,
-    from: Name,
-    pair: Pair,
-    level: u8,
-    version: u32,
-    on: bool,
-) -> Result<List<Lay>, Fail>
+    word: &Word,
+) -> List<Lay>
     requires owner { table.now.owner ≡ pointers.old.owner }
-    requires name { IsName table.now.settings pair.object }
+    requires name { IsName table.now.settings word.now.pair.object }
+    requires from { 1 ≤ word.now.level }
+    requires to { word.now.level ≤ length word.now.pair.object }
     requires names { AreNamesHeld table.now.settings pointers.old }
     requires laid { AreLaid table.now pointers.old }
-    requires from { 1 ≤ level }
-    requires to { level ≤ length pair.object }
-    ensures owner { OnOk result (table.now.owner ≡ pointers.new.owner) }
-    ensures names { OnOk result (AreNamesHeld table.now.settings pointers.new) }
-    ensures laid { OnOk result (AreLaid table.now pointers.new) }
+    ensures owner { table.now.owner ≡ pointers.new.owner }
+    ensures names { AreNamesHeld table.now.settings pointers.new }
+    ensures laid { AreLaid table.now pointers.new }
 {
-    if 1000 < stamp.last() {
-        return Err("too many Lays")?;
+    assert!(rt; stamp.last() <= 1000);
+    let Pair { object, server } = word.pair;
+    pointers
+        .take_lay(
+            table,
+            stamp,
+            word.from,
+            object,
+            server,
+            word.level,
+            word.version,
+            word.on,
+        )
+        .expect(rt, "memory")
+}
+
+// Adds a settled link, and lays all pairs as wanted.
+fn link(
+    rt: &impl Abort,
+    pointers: &mut Pointers,
+    table: &mut Table,
+    stamp: &mut Stamp,
+    text: &str,
+    mode: Mode,
+) -> List<Lay>
+    requires owner { table.old.owner ≡ pointers.old.owner }
+    requires names { AreNamesHeld table.old.settings pointers.old }
+    requires laid { AreLaid table.old pointers.old }
+    ensures owner { table.new.owner ≡ pointers.new.owner }
+    ensures names { AreNamesHeld table.new.settings pointers.new }
+    ensures laid { AreLaid table.new pointers.new }
+{
+    let name = name_of(rt, &table.settings(), text);
+    offer(rt, table, name);
+    if mode == Mode::Whole {
+        return reconcile(rt, pointers, table, stamp);
     }
-    let Pair { object, server } = pair;
-    Ok(pointers.take_lay(table, stamp, from, object, server, level, version, on)?)
+    let level = table.owner().lcp(&name) as u8;
+    reconcile_at(rt, pointers, table, stamp, level)
+}
+
+// Adds a settled link, which changes primaries of its level alone.
+fn offer(rt: &impl Abort, table: &mut Table, name: Name)
+    requires { IsName table.old.settings name }
+    ensures after { table.new ≡ offered table.old name }
+    ensures other { name ≢ table.old.owner }
+{
+    assert!(rt; name != table.owner());
+    let _ = table.offer(name).expect(rt, "memory");
+}
+
+// Adds settled links to the nodes of a text, which are parted by blanks.
+fn link_all(rt: &impl Abort, table: &mut Table, names: &str) {
+    for text in names.split(' ') {
+        if !text.is_empty() {
+            let name = name_of(rt, &table.settings(), text);
+            offer(rt, table, name);
+        }
+    }
+}
+
+// A node leaves, and its replacement fills its slot.
+fn replace(rt: &impl Abort, table: &mut Table, leaver: &str, replacement: &str)
+    ensures owner { table.new.owner ≡ table.old.owner }
+    ensures settings { table.new.settings ≡ table.old.settings }
+{
+    let leaver = name_of(rt, &table.settings(), leaver);
+    assert!(rt; leaver != table.owner());
+    table.mark_leaving(leaver);
+    let replacement = name_of(rt, &table.settings(), replacement);
+    offer(rt, table, replacement);
 }
 
 // Reconciles all pairs, or one if all others are laid as wanted.
 fn settle(
+    rt: &impl Abort,
     pointers: &mut Pointers,
     table: &Table,
     stamp: &mut Stamp,
     pair: Pair,
     mode: Mode,
-) -> Result<List<Lay>, Fail>
+) -> List<Lay>
     requires owner { table.now.owner ≡ pointers.old.owner }
     requires names { AreNamesHeld table.now.settings pointers.old }
     requires others { AreLaidBut table.now pair pointers.old }
-    ensures owner { OnOk result (table.now.owner ≡ pointers.new.owner) }
-    ensures names { OnOk result (AreNamesHeld table.now.settings pointers.new) }
-    ensures laid { OnOk result (AreLaid table.now pointers.new) }
+    ensures owner { table.now.owner ≡ pointers.new.owner }
+    ensures names { AreNamesHeld table.now.settings pointers.new }
+    ensures laid { AreLaid table.now pointers.new }
 {
     if mode == Mode::Whole {
-        return reconcile(pointers, table, stamp);
+        return reconcile(rt, pointers, table, stamp);
     }
-    if 1000 < stamp.last() {
-        return Err("too many Lays")?;
-    }
-    Ok(pointers.reconcile_pair(table, stamp, pair.object, pair.server)?)
+    assert!(rt; stamp.last() <= 1000);
+    pointers
+        .reconcile_pair(table, stamp, pair.object, pair.server)
+        .expect(rt, "memory")
 }
 
 // Reconciles all pairs.
-fn reconcile(pointers: &mut Pointers, table: &Table, stamp: &mut Stamp) -> Result<List<Lay>, Fail>
+fn reconcile(
+    rt: &impl Abort,
+    pointers: &mut Pointers,
+    table: &Table,
+    stamp: &mut Stamp,
+) -> List<Lay>
     requires owner { table.now.owner ≡ pointers.old.owner }
     requires names { AreNamesHeld table.now.settings pointers.old }
-    ensures owner { OnOk result (table.now.owner ≡ pointers.new.owner) }
-    ensures names { OnOk result (AreNamesHeld table.now.settings pointers.new) }
-    ensures laid { OnOk result (AreLaid table.now pointers.new) }
+    ensures owner { table.now.owner ≡ pointers.new.owner }
+    ensures names { AreNamesHeld table.now.settings pointers.new }
+    ensures laid { AreLaid table.now pointers.new }
 {
-    if 1000 < stamp.last() || 1000 < pointers.span() {
-        return Err("too many Lays")?;
-    }
-    Ok(pointers.reconcile(table, stamp)?)
+    check_room(rt, pointers, stamp);
+    pointers.reconcile(table, stamp).expect(rt, "memory")
 }
 
-// Reconciles what passes a level, if all pairs are laid as wanted.
+// Reconciles what passes a level, if all other pairs are laid as wanted.
 fn reconcile_at(
+    rt: &impl Abort,
     pointers: &mut Pointers,
     table: &Table,
     stamp: &mut Stamp,
     level: u8,
-) -> Result<List<Lay>, Fail>
+) -> List<Lay>
     requires owner { table.now.owner ≡ pointers.old.owner }
     requires names { AreNamesHeld table.now.settings pointers.old }
-    requires laid { AreLaid table.now pointers.old }
-    ensures owner { OnOk result (table.now.owner ≡ pointers.new.owner) }
-    ensures names { OnOk result (AreNamesHeld table.now.settings pointers.new) }
-    ensures laid { OnOk result (AreLaid table.now pointers.new) }
+    requires others { AreLaidBeside table.now level pointers.old }
+    ensures owner { table.now.owner ≡ pointers.new.owner }
+    ensures names { AreNamesHeld table.now.settings pointers.new }
+    ensures laid { AreLaid table.now pointers.new }
 {
-    if 1000 < stamp.last() || 1000 < pointers.span() {
-        return Err("too many Lays")?;
-    }
-    Ok(pointers.reconcile_at(table, stamp, level)?)
-}
-
-fn clear(pointers: &mut Pointers, stamp: &mut Stamp) -> Result<List<Lay>, Fail> {
-    if 1000 < stamp.last() || 1000 < pointers.span() {
-        return Err("too many Lays")?;
-    }
-    Ok(pointers.clear(stamp)?)
+    check_room(rt, pointers, stamp);
+    pointers
+        .reconcile_at(table, stamp, level)
+        .expect(rt, "memory")
 }
 
 // Lays in words.
-fn text_of(alloc: Global, lays: &List<Lay>) -> Result<Vec<u8>, Fail> {
+fn text_of(rt: &impl Abort, alloc: Global, lays: &List<Lay>) -> Vec<u8> {
     let mut text = Vec::new(alloc);
     for lay in lays.as_slice() {
-        if !text.is_empty() {
-            text.extend_from_slice(b", ")?;
-        }
-        text.push(if lay.on { b'+' } else { b'-' })?;
-        put_name(&mut text, &lay.to)?;
-        text.push(b'@')?;
-        put_number(&mut text, u32::from(lay.level))?;
-        text.push(b' ')?;
-        put_name(&mut text, &lay.object)?;
-        text.push(b'/')?;
-        put_name(&mut text, &lay.server)?;
-        text.push(b' ')?;
-        put_number(&mut text, lay.version)?;
+        put_lay(rt, &mut text, lay);
     }
-    Ok(text)
+    text
 }
 
-fn put_name(text: &mut Vec<u8>, name: &Name) -> Result<(), Fail> {
-    for at in 0..name.len() {
-        put_digit(text, name.digit(at))?;
+// A Lay in words, after a comma if there is one before it.
+fn put_lay(rt: &impl Abort, text: &mut Vec<u8>, lay: &Lay) {
+    if !text.is_empty() {
+        put(rt, text, b", ");
     }
-    Ok(())
+    put(rt, text, if lay.on { b"+" } else { b"-" });
+    put_name(rt, text, &lay.to);
+    put(rt, text, b"@");
+    put_number(rt, text, u32::from(lay.level));
+    put(rt, text, b" ");
+    put_name(rt, text, &lay.object);
+    put(rt, text, b"/");
+    put_name(rt, text, &lay.server);
+    put(rt, text, b" ");
+    put_number(rt, text, lay.version);
 }
 
 // A number of at most two decimal places.
-fn put_number(text: &mut Vec<u8>, number: u32) -> Result<(), Fail> {
-    if 100 <= number {
-        return Err("a number")?;
-    }
+fn put_number(rt: &impl Abort, text: &mut Vec<u8>, number: u32) {
+    assert!(rt; number < 100);
     if 10 <= number {
-        put_digit(text, (number / 10) as u8)?;
+        put_digit(rt, text, (number / 10) as u8);
     }
-    put_digit(text, (number % 10) as u8)
+    put_digit(rt, text, (number % 10) as u8);
 }
 
-fn put_digit(text: &mut Vec<u8>, digit: u8) -> Result<(), Fail> {
-    if 16 <= digit {
-        return Err("a digit")?;
-    }
-    text.push(text_of_digit(digit))?;
-    Ok(())
+// The pointers of 000, which knows of no pair.
+fn pointers_of_000(rt: &impl Abort, alloc: Global) -> Pointers {
+    let owner = name_of(rt, &settings_of(rt, 4, 3, 2), "000");
+    Pointers::new(alloc, owner)
+}
+
+// The pair of 113 and the server 222.
+fn pair_of_222(rt: &impl Abort) -> Pair {
+    let settings = settings_of(rt, 4, 3, 2);
+    let object = name_of(rt, &settings, "113");
+    let server = name_of(rt, &settings, "222");
+    Pair { object, server }
+}
+
+// A Lay of version 7 comes of the pair from its server, on or off; whether it is newer.
+fn is_newer(rt: &impl Abort, pointers: &mut Pointers, pair: &Pair, on: bool) -> bool {
+    let Pair { object, server } = *pair;
+    assert!(rt; 1 <= object.len());
+    pointers
+        .apply_lay(server, object, server, 1, 7, on)
+        .expect(rt, "memory")
+}
+
+// The node publishes the object, once.
+fn publish_twice(rt: &impl Abort, pointers: &mut Pointers, object: Name) {
+    assert!(rt; pointers.publish(object).expect(rt, "memory"));
+    assert!(rt; !pointers.publish(object).expect(rt, "memory"));
+    assert!(rt; pointers.publishes(object));
+}
+
+// It withdraws the object, once, and then another server is the least.
+fn withdraw_twice(rt: &impl Abort, pointers: &mut Pointers, pair: &Pair) {
+    assert!(rt; pointers.lookup(pair.object) == Some(pointers.owner()));
+    assert!(rt; pointers.withdraw(pair.object));
+    assert!(rt; !pointers.withdraw(pair.object));
+    assert!(rt; pointers.lookup(pair.object) == Some(pair.server));
+    assert!(rt; pointers.lookup(pair.server) == None);
 }
 
 // A node publishes an object, and is told of another server of it.
 #[test]
 fn pairs_are_held_until_they_are_withdrawn(rt: HostRuntime) {
-    let settings = Settings::new(4, 3, 2).expect(&rt, "settings");
-    let owner = read_name(&settings, b"000").expect(&rt, "a name");
-    let server = read_name(&settings, b"222").expect(&rt, "a name");
-    let object = read_name(&settings, b"113").expect(&rt, "a name");
-    assert!(rt; 1 <= object.len());
-    let mut pointers = Pointers::new(rt.alloc(), owner);
-    assert!(rt; pointers.publish(object).expect(&rt, "memory"));
-    assert!(rt; !pointers.publish(object).expect(&rt, "memory"));
-    assert!(rt; pointers.publishes(object));
-    assert!(rt;
-        pointers
-            .apply_lay(server, object, server, 1, 7, true)
-            .expect(&rt, "memory")
-    );
-    assert!(rt;
-        !pointers
-            .apply_lay(server, object, server, 1, 7, false)
-            .expect(&rt, "memory")
-    );
-    assert_eq!(rt; pointers.lookup(object), Some(owner));
-    assert!(rt; pointers.withdraw(object));
-    assert!(rt; !pointers.withdraw(object));
-    assert_eq!(rt; pointers.lookup(object), Some(server));
-    assert_eq!(rt; pointers.lookup(server), None);
+    let pair = pair_of_222(&rt);
+    let mut pointers = pointers_of_000(&rt, rt.alloc());
+    publish_twice(&rt, &mut pointers, pair.object);
+    assert!(rt; is_newer(&rt, &mut pointers, &pair, true));
+    assert!(rt; !is_newer(&rt, &mut pointers, &pair, false));
+    withdraw_twice(&rt, &mut pointers, &pair);
 }
 
-// A node is told of one pair, and lists it.
+// One pair is held.
+fn see_pair(rt: &impl Abort, pointers: &Pointers, pair: &Pair) {
+    assert!(rt; pointers.span() == 1);
+    assert!(rt; pointers.count() == 1);
+    assert!(rt; pointers.object_at(0) == pair.object);
+    assert!(rt; pointers.server_at(0) == pair.server);
+    assert!(rt; pointers.held().next() == Some(*pair));
+}
+
+// A node is told of one pair, and lists it. What it published it has dropped before.
 #[test]
 fn held_pairs_are_listed(rt: HostRuntime) {
-    let settings = Settings::new(4, 3, 2).expect(&rt, "settings");
-    let owner = read_name(&settings, b"000").expect(&rt, "a name");
-    let server = read_name(&settings, b"222").expect(&rt, "a name");
-    let object = read_name(&settings, b"113").expect(&rt, "a name");
-    assert!(rt; 1 <= object.len());
-    let mut pointers = Pointers::new(rt.alloc(), owner);
-    assert!(rt; pointers.publish(server).expect(&rt, "memory"));
+    let pair = pair_of_222(&rt);
+    let mut pointers = pointers_of_000(&rt, rt.alloc());
+    assert!(rt; pointers.publish(pair.server).expect(&rt, "memory"));
     pointers.drop_all();
-    assert!(rt;
-        pointers
-            .apply_lay(server, object, server, 1, 7, true)
-            .expect(&rt, "memory")
-    );
-    assert_eq!(rt; pointers.span(), 1);
-    let count = pointers.count();
-    assert!(rt; 0 < count);
-    assert_eq!(rt; count, 1);
-    assert_eq!(rt; pointers.object_at(0), object);
-    assert_eq!(rt; pointers.server_at(0), server);
-    assert_eq!(rt; pointers.held().next(), Some(Pair { object, server }));
+    assert!(rt; is_newer(&rt, &mut pointers, &pair, true));
+    see_pair(&rt, &pointers, &pair);
+}
+
+// Nothing is laid for a pair of the owner.
+fn check_own(
+    rt: &impl Abort,
+    alloc: Global,
+    pointers: &mut Pointers,
+    table: &Table,
+    stamp: &mut Stamp,
+)
+    requires owner { table.now.owner ≡ pointers.old.owner }
+    requires names { AreNamesHeld table.now.settings pointers.old }
+    requires laid { AreLaid table.now pointers.old }
+    ensures owner { table.now.owner ≡ pointers.new.owner }
+    ensures names { AreNamesHeld table.now.settings pointers.new }
+{
+    let owner = table.owner();
+    let pair = Pair {
+        object: owner,
+        server: owner,
+    };
+    let lays = settle(rt, pointers, table, stamp, pair, Mode::Pair);
+    check_lays(rt, alloc, lays, "");
 }
 
 // A node that knows of no pair has nothing to lay and nothing to clear.
 #[test]
 fn without_pairs_no_lay_is_sent(rt: HostRuntime) {
-    let settings = Settings::new(4, 3, 2).expect(&rt, "settings");
-    let owner = read_name(&settings, b"000").expect(&rt, "a name");
+    let settings = settings_of(&rt, 4, 3, 2);
+    let owner = name_of(&rt, &settings, "000");
     let table = Table::new(rt.alloc(), owner, &settings).expect(&rt, "memory");
+    let mut pointers = pointers_of(rt.alloc(), &table);
     let mut stamp = Stamp::new();
-    let mut pointers = Pointers::new(rt.alloc(), owner);
-    assert_eq!(rt; pointers.owner(), owner);
-    assert_eq!(rt; pointers.span(), 0);
-    assert_eq!(rt;
-        pointers
-            .reconcile(&table, &mut stamp)
-            .expect(&rt, "memory")
-            .len(),
-        0
-    );
-    assert_eq!(rt; stamp.last(), 0);
-    assert_eq!(rt;
-        pointers
-            .reconcile_pair(&table, &mut stamp, owner, owner)
-            .expect(&rt, "memory")
-            .len(),
-        0
-    );
-    assert_eq!(rt; stamp.last(), 0);
-    assert_eq!(rt;
-        pointers
-            .reconcile_at(&table, &mut stamp, 1)
-            .expect(&rt, "memory")
-            .len(),
-        0
-    );
-    assert_eq!(rt; stamp.last(), 0);
-    assert_eq!(rt; pointers.clear(&mut stamp).expect(&rt, "memory").len(), 0);
+    assert!(rt; pointers.owner() == owner);
+    assert!(rt; pointers.span() == 0);
+    check_own(&rt, rt.alloc(), &mut pointers, &table, &mut stamp);
+    check_settled(&rt, rt.alloc(), &mut pointers, &table, &mut stamp);
+    check_cleared(&rt, rt.alloc(), &mut pointers, &mut stamp, "");
+    assert!(rt; stamp.last() == 0);
 }

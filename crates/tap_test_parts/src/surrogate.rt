@@ -4,9 +4,10 @@ ghost use Rattle.std.specs.Cmp.Lexicographic.{pointwise};
 ghost use Rattle.tap_name.specs.Name.{IsName};
 ghost use Rattle.tap_name.specs.Distinct.{AreDistinct};
 
+use crate::names::{name_of, settings_of};
 use std::alloc::Global;
 use std::process::Abort;
-use tap_name::{List, Name, Settings, read_name};
+use tap_name::{List, Name, Settings};
 use tap_surrogate::{Step1, Tables, Walk, members_law, root_of, walk_law, walk_path};
 use tap_table::{Table, Ties};
 
@@ -42,18 +43,6 @@ impl<'a> Tables for Overlay<'a> {
     fn is_core(&self, name: Name) -> bool {
         self.table_of(name).is_some()
     }
-}
-
-// The settings of names with so many digits in this base.
-fn settings_of(rt: &impl Abort, base: u8, digits: u8) -> Settings {
-    Settings::new(base, digits, 2).expect(rt, "settings")
-}
-
-// The name of a text.
-fn name_of(rt: &impl Abort, settings: &Settings, text: &str) -> Name
-    ensures { IsName settings.now result }
-{
-    read_name(settings, text.as_bytes()).expect(rt, "a name")
 }
 
 // Adds a name.
@@ -225,7 +214,7 @@ const CASES: [Case; 9] = [
 
 // Compares the root of a case with the last node of its path.
 fn check_root(rt: &impl Abort, alloc: Global, case: &Case) {
-    let settings = settings_of(rt, case.base, case.digits);
+    let settings = settings_of(rt, case.base, case.digits, 2);
     let members = names_of(rt, alloc, &settings, case.members);
     let path = names_of(rt, alloc, &settings, case.path);
     let object = name_of(rt, &settings, case.object);
@@ -235,7 +224,7 @@ fn check_root(rt: &impl Abort, alloc: Global, case: &Case) {
 
 // Compares the walk of a case with its path.
 fn check_walk(rt: &impl Abort, alloc: Global, case: &Case) {
-    let settings = settings_of(rt, case.base, case.digits);
+    let settings = settings_of(rt, case.base, case.digits, 2);
     let members = names_of(rt, alloc, &settings, case.members);
     let path = names_of(rt, alloc, &settings, case.path);
     let object = name_of(rt, &settings, case.object);
@@ -297,7 +286,7 @@ fn check_texts(rt: &impl Abort, alloc: Global, overlay: &Overlay, object: &str, 
 
 #[test]
 fn core_nodes_alone_are_reached(rt: HostRuntime) {
-    let settings = settings_of(&rt, 4, 3);
+    let settings = settings_of(&rt, 4, 3, 2);
     let from = table_with_links(&rt, rt.alloc(), &settings);
     let core = table_of(&rt, rt.alloc(), &settings, "230");
     let last = table_of(&rt, rt.alloc(), &settings, "301");
@@ -312,7 +301,7 @@ fn core_nodes_alone_are_reached(rt: HostRuntime) {
 
 #[test]
 fn no_names_have_no_root(rt: HostRuntime) {
-    let settings = settings_of(&rt, 4, 3);
+    let settings = settings_of(&rt, 4, 3, 2);
     let object = name_of(&rt, &settings, "123");
     let none = List::new(rt.alloc());
     assert_eq!(rt; root_of(&none, &settings, &object), None);

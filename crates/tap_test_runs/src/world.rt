@@ -1,5 +1,5 @@
 // A world of one member, run by hand.
-ghost use Rattle.std.specs.Prelude.{◌≡◌, ◌≤◌, IsTrue, Some, true, false, not, length, IfOk, option_and_then};
+ghost use Rattle.std.specs.Prelude.{◌≡◌, ◌≤◌, ℕ, IsTrue, Some, true, false, not, length, IfOk, option_and_then};
 ghost use Rattle.std.specs.List.{list_any};
 ghost use Rattle.tap_name.specs.Name.{IsName};
 ghost use Rattle.tap_scenario.specs.Step.{IsStep};
@@ -156,6 +156,13 @@ fn is_next(world: &World, index: u32) -> bool
     index_of_last(world) < index && index <= 1_000_000
 }
 
+// Whether no index may come after that of the last step.
+fn none_is_next(world: &World) -> bool
+    ensures { IsTrue result → (index : ℕ) → IsNextIndex world.now index → ⊥ }
+{
+    index_of_last(world) >= 1_000_000
+}
+
 // Whether the last record is the step with this index.
 fn ends_with_step(world: &World, index: u32) -> bool
     ensures { IsTrue result → (option_and_then begun_index (last_of world.now.log) ≡ Some index) }
@@ -298,6 +305,22 @@ fn join(rt: &impl Abort, world: &mut World) -> Result<(), Fail> {
 fn a_node_joins_and_is_seen(rt: HostRuntime) -> Result<(), Fail> {
     let mut world = one_member(rt.alloc(), 100)?;
     join(&rt, &mut world)
+}
+
+// The first step has the greatest index: it is taken, no index may come after it, and the run is finished.
+fn end_at_the_greatest_index(rt: &impl Abort, world: &mut World) -> Result<(), Fail> {
+    assert!(rt; !none_is_next(world));
+    start(rt, world, 1_000_000, "join 01 via 00")?;
+    assert!(rt; none_is_next(world));
+    finish(rt, world, 1);
+    assert_eq!(rt; world.log().len(), 4);
+    Ok(())
+}
+
+#[test]
+fn no_step_comes_after_the_greatest_index(rt: HostRuntime) -> Result<(), Fail> {
+    let mut world = one_member(rt.alloc(), 100)?;
+    end_at_the_greatest_index(&rt, &mut world)
 }
 
 // A copy with another byte is no frame; a cut beyond the frame's bytes is refused, and the refusal noted.

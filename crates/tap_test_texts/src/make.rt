@@ -1,6 +1,5 @@
 use std::alloc::Global;
 use std::process::Abort;
-use std::test::Fail;
 use tap_make::{Mixer, made_law, make};
 use tap_name::{Name, Settings, read_name};
 use tap_scenario::{Scenario, Step, read_step};
@@ -56,68 +55,94 @@ const DIGESTS: [(u32, u64, usize, u64); 7] = [
     (100, 123_456_789, 335, 4_434_632_810_591_122_869),
 ];
 
+// Checks the first three numbers of a seed.
+fn check_mixed(rt: &impl Abort, seed: u64, numbers: [u32; 3]) {
+    let mut mixer = Mixer::new(seed);
+    let first = [mixer.next(), mixer.next(), mixer.next()];
+    assert!(rt; first == numbers, "{seed}");
+}
+
 #[test]
-fn mixes_numbers(rt: HostRuntime) -> Result<(), Fail> {
+fn mixes_numbers(rt: HostRuntime) {
     for (seed, numbers) in MIXED {
-        let mut mixer = Mixer::new(seed);
-        for number in numbers {
-            assert_eq!(rt; mixer.next(), number, "{seed}");
-        }
+        check_mixed(&rt, seed, numbers);
     }
-    Ok(())
 }
 
-#[test]
-fn makes_steps_in_their_order(rt: HostRuntime) -> Result<(), Fail> {
-    let scenario = made(rt.alloc(), 5, 7)?;
-    let settings = Settings::new(16, 8, 2).ok_or("settings")?;
-    assert_eq!(rt; scenario.settings(), settings);
-    assert_eq!(rt; scenario.frames(), 500_000);
-    assert_eq!(rt; scenario.carrier(), false);
-    assert_eq!(rt; scenario.step_count(), 102);
+// Settings of base 16 with eight digits.
+fn settings(rt: &impl Abort) -> Settings {
+    Settings::new(16, 8, 2).expect(rt, "settings")
+}
+
+// Checks that a step stands at this place.
+fn check_step(rt: &impl Abort, scenario: &Scenario, place: usize, text: &str) {
+    let read = read_step(&settings(rt), false, text.as_bytes());
+    assert!(rt; step(scenario, place) == read, "{text}");
+}
+
+// Checks the steps of the scenario of 5 joins from the seed 7.
+fn check_steps(rt: &impl Abort, scenario: &Scenario) {
     for (place, text) in STEPS {
-        assert_eq!(rt;
-            step(&scenario, place),
-            read_step(&settings, false, text.as_bytes()),
-            "{text}"
-        );
+        check_step(rt, scenario, place, text);
     }
-    Ok(())
+}
+
+// Checks what that scenario has beside its members and its steps.
+fn check_head(rt: &impl Abort, scenario: &Scenario) {
+    assert!(rt; scenario.settings() == settings(rt));
+    assert!(rt; scenario.frames() == 500_000);
+    assert!(rt; !scenario.carrier());
+    assert!(rt; scenario.step_count() == 102);
 }
 
 #[test]
-fn makes_members(rt: HostRuntime) -> Result<(), Fail> {
-    let scenario = made(rt.alloc(), 5, 7)?;
-    let settings = scenario.settings();
-    let members = scenario.members().as_slice();
-    assert_eq!(rt; members.len(), 28);
-    for (place, text) in [(0, "7e432800"), (1, "f4a61a01"), (27, "c6be3b1b")] {
-        assert_eq!(rt;
-            members.get(place).copied(),
-            read_name(&settings, text.as_bytes()).ok(),
-            "{text}"
-        );
-    }
-    Ok(())
+fn makes_steps_in_their_order(rt: HostRuntime) {
+    let scenario = made(&rt, rt.alloc(), 5, 7);
+    check_head(&rt, &scenario);
+    check_steps(&rt, &scenario);
+}
+
+// Checks that a member stands at this place.
+fn check_member(rt: &impl Abort, scenario: &Scenario, place: usize, text: &str) {
+    let member = scenario.members().as_slice().get(place).copied();
+    let read = read_name(&settings(rt), text.as_bytes()).ok();
+    assert!(rt; member == read, "{text}");
+}
+
+// Checks the members of the scenario of 5 joins from the seed 7.
+fn check_members(rt: &impl Abort, scenario: &Scenario) {
+    assert!(rt; scenario.members().len() == 28);
+    check_member(rt, scenario, 0, "7e432800");
+    check_member(rt, scenario, 1, "f4a61a01");
+    check_member(rt, scenario, 27, "c6be3b1b");
 }
 
 #[test]
-fn makes_the_scenarios_of_the_page(rt: HostRuntime) -> Result<(), Fail> {
+fn makes_members(rt: HostRuntime) {
+    let scenario = made(&rt, rt.alloc(), 5, 7);
+    check_members(&rt, &scenario);
+}
+
+// Checks the number of steps and the digest of a made scenario.
+fn check_digest(rt: &impl Abort, alloc: Global, joins: u32, seed: u64, steps: usize, digest: u64) {
+    let scenario = made(rt, alloc, joins, seed);
+    assert!(rt; scenario.step_count() == steps, "{joins} {seed}");
+    assert!(rt; digest_of(&scenario) == digest, "{joins} {seed}");
+}
+
+#[test]
+fn makes_the_scenarios_of_the_page(rt: HostRuntime) {
     for (joins, seed, steps, digest) in DIGESTS {
-        let scenario = made(rt.alloc(), joins, seed)?;
-        assert_eq!(rt; scenario.step_count(), steps, "{joins} {seed}");
-        assert_eq!(rt; digest_of(&scenario), digest, "{joins} {seed}");
+        check_digest(&rt, rt.alloc(), joins, seed, steps, digest);
     }
     made_law();
-    Ok(())
 }
 
 // A made scenario.
-fn made(alloc: Global, joins: u32, seed: u64) -> Result<Scenario, Fail> {
-    if joins < 1 || joins > 100 {
-        return Err("1 to 100 joins".into());
-    }
-    Ok(make(alloc, joins, seed).map_err(|_| "no memory")?)
+fn made(rt: &impl Abort, alloc: Global, joins: u32, seed: u64) -> Scenario {
+    assert!(rt; 1 <= joins);
+    assert!(rt; joins <= 100);
+    make(alloc, joins, seed).expect(rt, "memory")
 }
 
 // The step at a place, if there is one.

@@ -1,9 +1,10 @@
+ghost use Rattle.tap_report.specs.Text.{IsPrintableLog};
+
 use crate::report_checks::{
     ack, arrived, check_modes, check_text, data, log_of, name, settings, step, taken,
 };
 use std::alloc::Global;
 use std::process::Abort;
-use std::test::Fail;
 use tap_io::MemorySink;
 use tap_log::{Bytes, LinkLine, LinkWord, Log, NodeWord, Record, Refusal};
 use tap_name::{List, Name, Settings, Slot};
@@ -24,69 +25,89 @@ fn frame_of_join(number: u32) -> &'static [u8] {
     }
 }
 
-fn sent(alloc: Global, number: u32) -> Result<Record, Fail> {
-    let bytes = Bytes::copy_of(alloc, frame_of_join(number))?;
-    Ok(Record::Sent { number, bytes })
+fn sent(rt: &impl Abort, alloc: Global, number: u32) -> Record {
+    let bytes = Bytes::copy_of(alloc, frame_of_join(number)).expect(rt, "memory");
+    Record::Sent { number, bytes }
+}
+
+fn push(rt: &impl Abort, records: &mut Vec<Record>, item: Record) {
+    records.push(item).expect(rt, "memory");
 }
 
 // The table of a node with one settled link, in the slot of level 1 and this digit.
-fn table(alloc: Global, name: Name, digit: u8, target: Name) -> Result<Record, Fail> {
+fn table(rt: &impl Abort, alloc: Global, name: Name, digit: u8, target: Name) -> Record {
     let mut links = List::new(alloc);
-    links.push(LinkLine {
-        slot: Slot { level: 1, digit },
-        name: target,
-        kind: LinkWord::Settled,
-    })?;
-    Ok(Record::TableOf {
+    links
+        .push(LinkLine {
+            slot: Slot { level: 1, digit },
+            name: target,
+            kind: LinkWord::Settled,
+        })
+        .expect(rt, "memory");
+    Record::TableOf {
         name,
         status: NodeWord::Core,
         links,
-    })
+    }
 }
 
 // The records of one join after the beginning, up to the last frame.
-fn join(alloc: Global, old: Name, new: Name) -> Result<Vec<Record>, Fail> {
-    let begun = step(
-        1,
-        Step::Join {
-            name: new,
-            via: old,
-        },
+fn join(rt: &impl Abort, alloc: Global, records: &mut Vec<Record>, old: Name, new: Name) {
+    push(
+        rt,
+        records,
+        step(
+            1,
+            Step::Join {
+                name: new,
+                via: old,
+            },
+        ),
     );
-    let mut records = vec![in alloc; begun, sent(alloc, 0)?]?;
-    records.push(step(2, Step::Settle))?;
-    records.push(taken(0))?;
-    records.push(sent(alloc, 1)?)?;
-    records.push(sent(alloc, 2)?)?;
-    records.push(taken(1))?;
-    records.push(taken(2))?;
-    records.push(sent(alloc, 3)?)?;
-    records.push(sent(alloc, 4)?)?;
-    records.push(taken(3))?;
-    records.push(sent(alloc, 5)?)?;
-    records.push(taken(4))?;
-    records.push(sent(alloc, 6)?)?;
-    records.push(taken(5))?;
-    records.push(taken(6))?;
-    records.push(Record::Core { name: new })?;
-    records.push(sent(alloc, 7)?)?;
-    records.push(taken(7))?;
-    Ok(records)
+    push(rt, records, sent(rt, alloc, 0));
+    push(rt, records, step(2, Step::Settle));
+    push(rt, records, taken(0));
+    push(rt, records, sent(rt, alloc, 1));
+    push(rt, records, sent(rt, alloc, 2));
+    push(rt, records, taken(1));
+    push(rt, records, taken(2));
+    push(rt, records, sent(rt, alloc, 3));
+    push(rt, records, sent(rt, alloc, 4));
+    push(rt, records, taken(3));
+    push(rt, records, sent(rt, alloc, 5));
+    push(rt, records, taken(4));
+    push(rt, records, sent(rt, alloc, 6));
+    push(rt, records, taken(5));
+    push(rt, records, taken(6));
+    push(rt, records, Record::Core { name: new });
+    push(rt, records, sent(rt, alloc, 7));
+    push(rt, records, taken(7));
+}
+
+// The tables of both nodes after the join, and the end.
+fn tables_of_both(rt: &impl Abort, alloc: Global, records: &mut Vec<Record>, old: Name, new: Name) {
+    push(rt, records, step(3, Step::Table { name: old }));
+    push(rt, records, table(rt, alloc, old, 1, new));
+    push(rt, records, step(4, Step::Table { name: new }));
+    push(rt, records, table(rt, alloc, new, 0, old));
+    push(rt, records, Record::Finished { steps: 4 });
+}
+
+// The log of one join.
+fn log_of_join(rt: &impl Abort, alloc: Global) -> Log
+    ensures { IsPrintableLog result.records }
+{
+    let settings = Settings::new(2, 2, 1).expect(rt, "settings");
+    let (old, new) = (name(rt, &settings, "00"), name(rt, &settings, "01"));
+    let mut records = Vec::new(alloc);
+    join(rt, alloc, &mut records, old, new);
+    tables_of_both(rt, alloc, &mut records, old, new);
+    log_of(rt, alloc, &settings, &["00"], records)
 }
 
 #[test]
-fn one_join_is_printed(rt: HostRuntime) -> Result<(), Fail> {
-    let alloc = rt.alloc();
-    let settings = Settings::new(2, 2, 1).ok_or("settings")?;
-    let old = name(&rt, &settings, "00");
-    let new = name(&rt, &settings, "01");
-    let mut rest = join(alloc, old, new)?;
-    rest.push(step(3, Step::Table { name: old }))?;
-    rest.push(table(alloc, old, 1, new)?)?;
-    rest.push(step(4, Step::Table { name: new }))?;
-    rest.push(table(alloc, new, 0, old)?)?;
-    rest.push(Record::Finished { steps: 4 })?;
-    let log = log_of(&rt, alloc, &settings, &["00"], rest)?;
+fn one_join_is_printed(rt: HostRuntime) {
+    let log = log_of_join(&rt, rt.alloc());
     let long = "begin base 2 digits 2 width 1 frames 200000\nmember 00\n\
         step 1 join 01 via 00\nsent 0 seek 01 00 01010002000100000001\n\
         step 2 settle\ntaken 0\n\
@@ -102,133 +123,135 @@ fn one_join_is_printed(rt: HostRuntime) -> Result<(), Fail> {
     let brief = "begin base 2 digits 2 width 1 frames 200000\ncore 01\n\
         table 00 core links 1\nlink 1 1 01 settled\n\
         table 01 core links 1\nlink 1 0 00 settled\ndone 4\n";
+    let summary = "nodes 2\nframes 8\nhops 0\nanswered 0\n";
+    check_modes(&rt, rt.alloc(), &log, [long, brief, summary]);
+    let (fails, begun) = ([2], "begin base");
     check_text(
         &rt,
-        alloc,
+        rt.alloc(),
         Mode::Brief,
         &log,
-        &[2],
+        &fails,
         Written::Failed,
-        "begin base",
-    )?;
-    let summary = "nodes 2\nframes 8\nhops 0\nanswered 0\n";
-    check_modes(&rt, alloc, &log, [long, brief, summary])
+        begun,
+    );
 }
 
 // Up to the loss: the seek is repeated, and both of its packets arrive.
 fn until_the_link_is_lost(
+    rt: &impl Abort,
     alloc: Global,
     records: &mut Vec<Record>,
     old: Name,
     new: Name,
-) -> Result<(), Fail> {
-    records.push(Record::Carrier)?;
-    records.push(step(
-        1,
-        Step::Join {
-            name: new,
-            via: old,
-        },
-    ))?;
-    records.push(sent(alloc, 0)?)?;
-    records.push(data(0, 0))?;
-    records.push(step(2, Step::Repeat { place: 0 }))?;
-    records.push(data(1, 0))?;
-    records.push(step(3, Step::Deliver { place: 0 }))?;
-    records.push(arrived(0))?;
-    records.push(taken(0))?;
-    records.push(sent(alloc, 1)?)?;
-    records.push(sent(alloc, 2)?)?;
-    records.push(data(2, 1))?;
-    records.push(data(3, 2))?;
-    records.push(ack(4, 0))?;
-    records.push(step(4, Step::Deliver { place: 0 }))?;
-    records.push(arrived(1))?;
-    records.push(ack(5, 0))?;
-    records.push(step(5, Step::Lose { place: 0 }))?;
-    records.push(Record::Lost { packet: 2 })?;
-    Ok(())
+) {
+    push(rt, records, Record::Carrier);
+    push(
+        rt,
+        records,
+        step(
+            1,
+            Step::Join {
+                name: new,
+                via: old,
+            },
+        ),
+    );
+    push(rt, records, sent(rt, alloc, 0));
+    push(rt, records, data(0, 0));
+    push(rt, records, step(2, Step::Repeat { place: 0 }));
+    push(rt, records, data(1, 0));
+    push(rt, records, step(3, Step::Deliver { place: 0 }));
+    push(rt, records, arrived(0));
+    push(rt, records, taken(0));
+    push(rt, records, sent(rt, alloc, 1));
+    push(rt, records, sent(rt, alloc, 2));
+    push(rt, records, data(2, 1));
+    push(rt, records, data(3, 2));
+    push(rt, records, ack(4, 0));
+    push(rt, records, step(4, Step::Deliver { place: 0 }));
+    push(rt, records, arrived(1));
+    push(rt, records, ack(5, 0));
+    push(rt, records, step(5, Step::Lose { place: 0 }));
+    push(rt, records, Record::Lost { packet: 2 });
 }
 
 // The newcomer takes the hello, and what it sends arrives.
-fn until_the_hello_is_heard(alloc: Global, records: &mut Vec<Record>) -> Result<(), Fail> {
-    records.push(step(6, Step::Settle))?;
-    records.push(arrived(3))?;
-    records.push(taken(2))?;
-    records.push(sent(alloc, 3)?)?;
-    records.push(sent(alloc, 4)?)?;
-    records.push(data(6, 3))?;
-    records.push(data(7, 4))?;
-    records.push(ack(8, 2))?;
-    records.push(arrived(4))?;
-    records.push(arrived(5))?;
-    records.push(arrived(6))?;
-    Ok(())
+fn until_the_hello_is_heard(rt: &impl Abort, alloc: Global, records: &mut Vec<Record>) {
+    push(rt, records, step(6, Step::Settle));
+    push(rt, records, arrived(3));
+    push(rt, records, taken(2));
+    push(rt, records, sent(rt, alloc, 3));
+    push(rt, records, sent(rt, alloc, 4));
+    push(rt, records, data(6, 3));
+    push(rt, records, data(7, 4));
+    push(rt, records, ack(8, 2));
+    push(rt, records, arrived(4));
+    push(rt, records, arrived(5));
+    push(rt, records, arrived(6));
 }
 
 // The newcomer becomes core, though it hasn't taken the link yet.
-fn until_it_is_core(alloc: Global, records: &mut Vec<Record>, new: Name) -> Result<(), Fail> {
-    records.push(taken(3))?;
-    records.push(sent(alloc, 5)?)?;
-    records.push(data(9, 5))?;
-    records.push(ack(10, 3))?;
-    records.push(arrived(7))?;
-    records.push(taken(4))?;
-    records.push(sent(alloc, 6)?)?;
-    records.push(data(11, 6))?;
-    records.push(ack(12, 4))?;
-    records.push(arrived(8))?;
-    records.push(arrived(9))?;
-    records.push(taken(5))?;
-    records.push(ack(13, 5))?;
-    records.push(arrived(10))?;
-    records.push(arrived(11))?;
-    records.push(taken(6))?;
-    records.push(Record::Core { name: new })?;
-    records.push(ack(14, 6))?;
-    records.push(arrived(12))?;
-    records.push(arrived(13))?;
-    records.push(arrived(14))?;
-    Ok(())
+fn until_it_is_core(rt: &impl Abort, alloc: Global, records: &mut Vec<Record>, new: Name) {
+    push(rt, records, taken(3));
+    push(rt, records, sent(rt, alloc, 5));
+    push(rt, records, data(9, 5));
+    push(rt, records, ack(10, 3));
+    push(rt, records, arrived(7));
+    push(rt, records, taken(4));
+    push(rt, records, sent(rt, alloc, 6));
+    push(rt, records, data(11, 6));
+    push(rt, records, ack(12, 4));
+    push(rt, records, arrived(8));
+    push(rt, records, arrived(9));
+    push(rt, records, taken(5));
+    push(rt, records, ack(13, 5));
+    push(rt, records, arrived(10));
+    push(rt, records, arrived(11));
+    push(rt, records, taken(6));
+    push(rt, records, Record::Core { name: new });
+    push(rt, records, ack(14, 6));
+    push(rt, records, arrived(12));
+    push(rt, records, arrived(13));
+    push(rt, records, arrived(14));
 }
 
 // A tick sends the link again, and then nothing is under way.
-fn after_a_tick(
-    alloc: Global,
-    records: &mut Vec<Record>,
-    old: Name,
-    new: Name,
-) -> Result<(), Fail> {
-    records.push(Record::Ticked)?;
-    records.push(data(15, 1))?;
-    records.push(arrived(15))?;
-    records.push(taken(1))?;
-    records.push(sent(alloc, 7)?)?;
-    records.push(data(16, 7))?;
-    records.push(ack(17, 1))?;
-    records.push(arrived(16))?;
-    records.push(taken(7))?;
-    records.push(ack(18, 7))?;
-    records.push(arrived(17))?;
-    records.push(arrived(18))?;
-    records.push(step(7, Step::Table { name: old }))?;
-    records.push(table(alloc, old, 1, new)?)?;
-    records.push(Record::Finished { steps: 7 })?;
-    Ok(())
+fn after_a_tick(rt: &impl Abort, alloc: Global, records: &mut Vec<Record>, old: Name, new: Name) {
+    push(rt, records, Record::Ticked);
+    push(rt, records, data(15, 1));
+    push(rt, records, arrived(15));
+    push(rt, records, taken(1));
+    push(rt, records, sent(rt, alloc, 7));
+    push(rt, records, data(16, 7));
+    push(rt, records, ack(17, 1));
+    push(rt, records, arrived(16));
+    push(rt, records, taken(7));
+    push(rt, records, ack(18, 7));
+    push(rt, records, arrived(17));
+    push(rt, records, arrived(18));
+    push(rt, records, step(7, Step::Table { name: old }));
+    push(rt, records, table(rt, alloc, old, 1, new));
+    push(rt, records, Record::Finished { steps: 7 });
+}
+
+// The log of one join that packets carry.
+fn log_of_carried_join(rt: &impl Abort, alloc: Global) -> Log
+    ensures { IsPrintableLog result.records }
+{
+    let settings = Settings::new(2, 2, 1).expect(rt, "settings");
+    let (old, new) = (name(rt, &settings, "00"), name(rt, &settings, "01"));
+    let mut records = Vec::new(alloc);
+    until_the_link_is_lost(rt, alloc, &mut records, old, new);
+    until_the_hello_is_heard(rt, alloc, &mut records);
+    until_it_is_core(rt, alloc, &mut records, new);
+    after_a_tick(rt, alloc, &mut records, old, new);
+    log_of(rt, alloc, &settings, &["00"], records)
 }
 
 #[test]
-fn a_carried_join_is_printed(rt: HostRuntime) -> Result<(), Fail> {
-    let alloc = rt.alloc();
-    let settings = Settings::new(2, 2, 1).ok_or("settings")?;
-    let old = name(&rt, &settings, "00");
-    let new = name(&rt, &settings, "01");
-    let mut rest = Vec::new(alloc);
-    until_the_link_is_lost(alloc, &mut rest, old, new)?;
-    until_the_hello_is_heard(alloc, &mut rest)?;
-    until_it_is_core(alloc, &mut rest, new)?;
-    after_a_tick(alloc, &mut rest, old, new)?;
-    let log = log_of(&rt, alloc, &settings, &["00"], rest)?;
+fn a_carried_join_is_printed(rt: HostRuntime) {
+    let log = log_of_carried_join(&rt, rt.alloc());
     let long =
         "begin base 2 digits 2 width 1 frames 200000\nmember 00\ncarrier\nstep 1 join 01 via 00\n\
         sent 0 seek 01 00 01010002000100000001\npacket 0 data 0\nstep 2 repeat 0\npacket 1 data 0\n\
@@ -248,105 +271,92 @@ fn a_carried_join_is_printed(rt: HostRuntime) -> Result<(), Fail> {
         "begin base 2 digits 2 width 1 frames 200000\ncarrier\ncore 01\ntable 00 core links 1\n\
         link 1 1 01 settled\ndone 7\n";
     let summary = "nodes 2\nframes 8\nhops 0\nanswered 0\n";
-    check_modes(&rt, alloc, &log, [long, brief, summary])
-}
-
-#[test]
-fn departed_nodes_are_counted(rt: HostRuntime) -> Result<(), Fail> {
-    let alloc = rt.alloc();
-    let settings = settings(&rt);
-    let first = name(&rt, &settings, "000");
-    let second = name(&rt, &settings, "230");
-
-    let rest = vec![in alloc;
-        leaves_of(first),
-        Record::Gone { name: first },
-        leaves_of(second),
-        Record::Refused {
-            index: 2,
-            refusal: Refusal::LastNode
-        },
-        Record::Gone { name: second },
-        Record::Gone { name: first },
-    ]?;
-    let log = log_of(&rt, alloc, &settings, &["000", "230", "233"], rest)?;
-    let summary = "nodes 1\nframes 0\nhops 0\nanswered 0\n";
-    check_text(&rt, alloc, Mode::Summary, &log, &[], Written::All, summary)?;
-    let none = log_of(
-        &rt,
-        alloc,
-        &settings,
-        &[],
-        vec![in alloc; leaves_of(first), Record::Gone { name: first }]?,
-    )?;
-    let summary = "nodes 0\nframes 0\nhops 0\nanswered 0\n";
-    check_text(&rt, alloc, Mode::Summary, &none, &[], Written::All, summary)?;
-    check_text(
-        &rt,
-        alloc,
-        Mode::Summary,
-        &Log::new(alloc),
-        &[],
-        Written::All,
-        "",
-    )
+    check_modes(&rt, rt.alloc(), &log, [long, brief, summary]);
 }
 
 fn leaves_of(name: Name) -> Record {
     step(1, Step::Depart { name })
 }
 
-// Checks the summary of a beginning with two members and these records.
-fn check_summary(
-    rt: &impl Abort,
-    alloc: Global,
-    rest: Vec<Record>,
-    text: &str,
-) -> Result<(), Fail> {
+// Checks the summary of a beginning with these members and these records.
+fn check_summary(rt: &impl Abort, alloc: Global, members: &[&str], rest: Vec<Record>, text: &str) {
     let settings = settings(rt);
-    let log = log_of(rt, alloc, &settings, &["000", "230"], rest)?;
-    check_text(rt, alloc, Mode::Summary, &log, &[], Written::All, text)
+    let log = log_of(rt, alloc, &settings, members, rest);
+    check_text(rt, alloc, Mode::Summary, &log, &[], Written::All, text);
+}
+
+// Two of three nodes depart, one of them twice.
+fn departures(rt: &impl Abort, alloc: Global) -> Vec<Record> {
+    let first = name(rt, &settings(rt), "000");
+    let second = name(rt, &settings(rt), "230");
+    let refusal = Refusal::LastNode;
+    let mut records = Vec::new(alloc);
+    push(rt, &mut records, leaves_of(first));
+    push(rt, &mut records, Record::Gone { name: first });
+    push(rt, &mut records, leaves_of(second));
+    push(rt, &mut records, Record::Refused { index: 2, refusal });
+    push(rt, &mut records, Record::Gone { name: second });
+    push(rt, &mut records, Record::Gone { name: first });
+    records
+}
+
+// One node departs.
+fn one_departure(rt: &impl Abort, alloc: Global) -> Vec<Record> {
+    let name = name(rt, &settings(rt), "000");
+    vec![in alloc; leaves_of(name), Record::Gone { name }].expect(rt, "memory")
+}
+
+#[test]
+fn departed_nodes_are_counted(rt: HostRuntime) {
+    let rest = departures(&rt, rt.alloc());
+    let summary = "nodes 1\nframes 0\nhops 0\nanswered 0\n";
+    check_summary(&rt, rt.alloc(), &["000", "230", "233"], rest, summary);
+    let rest = one_departure(&rt, rt.alloc());
+    let summary = "nodes 0\nframes 0\nhops 0\nanswered 0\n";
+    check_summary(&rt, rt.alloc(), &[], rest, summary);
+}
+
+#[test]
+fn an_empty_log_has_no_text(rt: HostRuntime) {
+    let log = Log::new(rt.alloc());
+    check_text(&rt, rt.alloc(), Mode::Summary, &log, &[], Written::All, "");
+}
+
+// A departure, within which a frame is taken.
+fn push_departure(rt: &impl Abort, records: &mut Vec<Record>) {
+    let leaver = name(rt, &settings(rt), "000");
+    push(rt, records, leaves_of(leaver));
+    push(rt, records, taken(0));
+    push(rt, records, Record::Gone { name: leaver });
 }
 
 // In a carried log a step's group goes on when a frame is taken, which begins a group of its own in any other log.
 #[test]
-fn a_log_is_carried_where_carrier_is_second(rt: HostRuntime) -> Result<(), Fail> {
-    let alloc = rt.alloc();
-    let leaver = name(&rt, &settings(&rt), "000");
-    let rest = vec![in alloc;
-        Record::Carrier,
-        leaves_of(leaver),
-        taken(0),
-        Record::Gone { name: leaver },
-    ]?;
-    check_summary(&rt, alloc, rest, "nodes 1\nframes 0\nhops 0\nanswered 0\n")?;
-    let rest = vec![in alloc;
-        Record::Ticked,
-        Record::Carrier,
-        leaves_of(leaver),
-        taken(0),
-        Record::Gone { name: leaver },
-    ]?;
-    check_summary(&rt, alloc, rest, "nodes 2\nframes 0\nhops 0\nanswered 0\n")
+fn a_log_is_carried_where_carrier_is_second(rt: HostRuntime) {
+    let mut rest = Vec::new(rt.alloc());
+    push(&rt, &mut rest, Record::Carrier);
+    push_departure(&rt, &mut rest);
+    let summary = "nodes 1\nframes 0\nhops 0\nanswered 0\n";
+    check_summary(&rt, rt.alloc(), &["000", "230"], rest, summary);
 }
 
 #[test]
-fn a_text_follows_only_what_was_written(rt: HostRuntime) -> Result<(), Fail> {
+fn a_log_is_not_carried_where_carrier_is_third(rt: HostRuntime) {
+    let mut rest = Vec::new(rt.alloc());
+    push(&rt, &mut rest, Record::Ticked);
+    push(&rt, &mut rest, Record::Carrier);
+    push_departure(&rt, &mut rest);
+    let summary = "nodes 2\nframes 0\nhops 0\nanswered 0\n";
+    check_summary(&rt, rt.alloc(), &["000", "230"], rest, summary);
+}
+
+#[test]
+fn a_text_follows_only_what_was_written(rt: HostRuntime) {
     puts_write_the_text();
     assert!(rt; !Reporter::new(Mode::Long).is_full());
-    let mut sink = MemorySink::new(rt.alloc(), 4, 100, &[3])?;
-    assert_eq!(rt;
-        write_text(&mut sink, Written::All, b"tapestry"),
-        Written::All
-    );
-    assert_eq!(rt;
-        write_text(&mut sink, Written::All, b": no memory"),
-        Written::Failed
-    );
-    assert_eq!(rt;
-        write_text(&mut sink, Written::Failed, b"more"),
-        Written::Failed
-    );
-    assert_eq!(rt; sink.bytes(), b"tapestry".as_slice());
-    Ok(())
+    let mut sink = MemorySink::new(rt.alloc(), 4, 100, &[3]).expect(&rt, "memory");
+    assert!(rt; write_text(&mut sink, Written::All, b"tapestry") == Written::All);
+    assert!(rt; write_text(&mut sink, Written::All, b": no memory") == Written::Failed);
+    assert!(rt; write_text(&mut sink, Written::Failed, b"more") == Written::Failed);
+    assert!(rt; sink.bytes() == b"tapestry".as_slice());
 }

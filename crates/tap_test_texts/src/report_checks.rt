@@ -1,11 +1,10 @@
-ghost use Rattle.std.specs.Prelude.{◌<◌, All, IfOk, IsTrue, Some, length};
+ghost use Rattle.std.specs.Prelude.{◌<◌, ◌≡◌, ◌++◌, ◌∷◌, [], All, IsTrue, Some, length};
 ghost use Rattle.tap_report.specs.Reporter.{most_records};
 ghost use Rattle.tap_report.specs.Text.{IsBegin, IsPrintable, IsPrintableLog, text_of_log};
 ghost use Rattle.tap_report.specs.Written.{WritesText};
 
 use std::alloc::Global;
 use std::process::Abort;
-use std::test::Fail;
 use tap_io::{MemorySink, Sink};
 use tap_log::{LinkLine, Log, Record};
 use tap_name::{List, Name, Settings, read_name};
@@ -23,12 +22,12 @@ pub(crate) fn names(
     alloc: Global,
     settings: &Settings,
     texts: &[&str],
-) -> Result<List<Name>, Fail> {
+) -> List<Name> {
     let mut names = List::new(alloc);
     for text in texts {
-        names.push(name(rt, settings, text))?;
+        names.push(name(rt, settings, text)).expect(rt, "memory");
     }
-    Ok(names)
+    names
 }
 
 pub(crate) fn settings(rt: &impl Abort) -> Settings {
@@ -71,6 +70,16 @@ fn check_follows(rt: &impl Abort, settings: &Settings, item: &Record)
     }
 }
 
+// Adds a record to a log, for which there is memory.
+fn add(rt: &impl Abort, log: &mut Log, item: Record)
+    ensures { log.new.records ≡ log.old.records ++ item ∷ [] }
+{
+    match log.push(item) {
+        Ok(()) => {}
+        Err(_) => rt.abort(),
+    }
+}
+
 // The log of a run: a beginning with these members, and then these records.
 pub(crate) fn log_of(
     rt: &impl Abort,
@@ -78,20 +87,21 @@ pub(crate) fn log_of(
     settings: &Settings,
     members: &[&str],
     rest: Vec<Record>,
-) -> Result<Log, Fail>
-    ensures { IfOk result (λ log. IsPrintableLog log.records) }
+) -> Log
+    ensures { IsPrintableLog result.records }
 {
     let mut log = Log::new(alloc);
-    log.push(Record::Begin {
+    let begin = Record::Begin {
         settings: *settings,
         frames: 200_000,
-        members: names(rt, alloc, settings, members)?,
-    })?;
+        members: names(rt, alloc, settings, members),
+    };
+    add(rt, &mut log, begin);
     for item in rest {
         check_follows(rt, settings, &item);
-        log.push(item)?;
+        add(rt, &mut log, item);
     }
-    Ok(log)
+    log
 }
 
 // Puts each record of a log, as a run does that is printed while it goes on.
@@ -121,6 +131,60 @@ fn put_together<K: Sink>(mode: Mode, log: &Log, sink: &mut K) -> Written
     reporter.finish(sink)
 }
 
+// Prints a log at once, to a sink whose writes of these numbers fail.
+fn check_at_once(
+    rt: &impl Abort,
+    alloc: Global,
+    mode: Mode,
+    log: &Log,
+    fails: &[u32],
+    answer: Written,
+    text: &str,
+)
+    requires printable { IsPrintableLog log.now.records }
+    requires few { length log.now.records < most_records }
+{
+    let mut sink = MemorySink::new(alloc, 10, 2000, fails).expect(rt, "memory");
+    assert!(rt; write_log(mode, log, &mut sink) == answer, "{text}");
+    assert!(rt; sink.bytes() == text.as_bytes(), "{text}");
+}
+
+// Prints a log record by record.
+fn check_each(
+    rt: &impl Abort,
+    alloc: Global,
+    mode: Mode,
+    log: &Log,
+    fails: &[u32],
+    answer: Written,
+    text: &str,
+)
+    requires printable { IsPrintableLog log.now.records }
+    requires few { length log.now.records < most_records }
+{
+    let mut sink = MemorySink::new(alloc, 10, 2000, fails).expect(rt, "memory");
+    assert!(rt; put_each(mode, log, &mut sink) == answer, "{text}");
+    assert!(rt; sink.bytes() == text.as_bytes(), "{text}");
+}
+
+// Prints all records of a log together.
+fn check_together(
+    rt: &impl Abort,
+    alloc: Global,
+    mode: Mode,
+    log: &Log,
+    fails: &[u32],
+    answer: Written,
+    text: &str,
+)
+    requires printable { IsPrintableLog log.now.records }
+    requires few { length log.now.records < most_records }
+{
+    let mut sink = MemorySink::new(alloc, 10, 2000, fails).expect(rt, "memory");
+    assert!(rt; put_together(mode, log, &mut sink) == answer, "{text}");
+    assert!(rt; sink.bytes() == text.as_bytes(), "{text}");
+}
+
 // Prints a log at once, record by record, and all records together, to sinks whose writes of these numbers fail.
 pub(crate) fn check_text(
     rt: &impl Abort,
@@ -130,35 +194,23 @@ pub(crate) fn check_text(
     fails: &[u32],
     answer: Written,
     text: &str,
-) -> Result<(), Fail>
+)
     requires { IsPrintableLog log.now.records }
 {
     assert!(rt; log.len() < 100);
-    let mut at_once = MemorySink::new(alloc, 10, 2000, fails)?;
-    assert_eq!(rt; write_log(mode, log, &mut at_once), answer);
-    assert_eq!(rt; at_once.bytes(), text.as_bytes());
-    let mut one_by_one = MemorySink::new(alloc, 10, 2000, fails)?;
-    assert_eq!(rt; put_each(mode, log, &mut one_by_one), answer);
-    assert_eq!(rt; one_by_one.bytes(), text.as_bytes());
-    let mut together = MemorySink::new(alloc, 10, 2000, fails)?;
-    assert_eq!(rt; put_together(mode, log, &mut together), answer);
-    assert_eq!(rt; together.bytes(), text.as_bytes());
-    Ok(())
+    check_at_once(rt, alloc, mode, log, fails, answer, text);
+    check_each(rt, alloc, mode, log, fails, answer, text);
+    check_together(rt, alloc, mode, log, fails, answer, text);
 }
 
 // Prints a log in each mode: these are its long text, its brief one and its summary.
-pub(crate) fn check_modes(
-    rt: &impl Abort,
-    alloc: Global,
-    log: &Log,
-    texts: [&str; 3],
-) -> Result<(), Fail>
+pub(crate) fn check_modes(rt: &impl Abort, alloc: Global, log: &Log, texts: [&str; 3])
     requires { IsPrintableLog log.now.records }
 {
     let [long, brief, summary] = texts;
-    check_text(rt, alloc, Mode::Long, log, &[], Written::All, long)?;
-    check_text(rt, alloc, Mode::Brief, log, &[], Written::All, brief)?;
-    check_text(rt, alloc, Mode::Summary, log, &[], Written::All, summary)
+    check_text(rt, alloc, Mode::Long, log, &[], Written::All, long);
+    check_text(rt, alloc, Mode::Brief, log, &[], Written::All, brief);
+    check_text(rt, alloc, Mode::Summary, log, &[], Written::All, summary);
 }
 
 // Prints these records after a beginning with no member, in each mode. The texts are the lines that the brief text leaves
@@ -169,13 +221,13 @@ pub(crate) fn check_records(
     settings: &Settings,
     rest: Vec<Record>,
     texts: [&str; 3],
-) -> Result<(), Fail> {
-    let log = log_of(rt, alloc, settings, &[], rest)?;
+) {
+    let log = log_of(rt, alloc, settings, &[], rest);
     let [detail, lines, summary] = texts;
     let begin = "begin base 4 digits 3 width 2 frames 200000\n";
-    let long = format!(in alloc; "{begin}{detail}{lines}")?;
-    let brief = format!(in alloc; "{begin}{lines}")?;
-    check_modes(rt, alloc, &log, [long.as_str(), brief.as_str(), summary])
+    let long = format!(in alloc; "{begin}{detail}{lines}").expect(rt, "memory");
+    let brief = format!(in alloc; "{begin}{lines}").expect(rt, "memory");
+    check_modes(rt, alloc, &log, [long.as_str(), brief.as_str(), summary]);
 }
 
 // Prints one record after a beginning.
@@ -185,9 +237,12 @@ pub(crate) fn check_line(
     settings: &Settings,
     item: Record,
     line: &str,
-) -> Result<(), Fail> {
-    let log = log_of(rt, alloc, settings, &[], vec![in alloc; item]?)?;
-    let text = format!(in alloc; "begin base 4 digits 3 width 2 frames 200000\n{line}\n")?;
+) {
+    let rest = vec![in alloc; item].expect(rt, "memory");
+    let log = log_of(rt, alloc, settings, &[], rest);
+    let text = format!(in alloc; "begin base 4 digits 3 width 2 frames 200000\n{line}\n").expect(
+        rt, "memory",
+    );
     check_text(
         rt,
         alloc,
@@ -196,7 +251,7 @@ pub(crate) fn check_line(
         &[],
         Written::All,
         text.as_str(),
-    )
+    );
 }
 
 pub(crate) fn step(index: u32, step: Step) -> Record {

@@ -10,7 +10,7 @@ loop-item-preserved g c =
     let item = c.in-Some.item in
     let was = c.loop-item.invariant in
     let other = c.check_follows.ensures.other in
-    rw c.in_ok-push-2.ensures.ok (record {
+    rw c.add-in-loop-item.ensures (record {
       printable = IsPrintableLog-push records item was.begun other (rw was.settings c.check_follows.ensures.printable) was.printable;
       begun = omega (arith, length-append records (item ∷ []));
       settings = settings_so_far-push records item ∙ same_settings (settings_so_far records) item other ∙ was.settings;
