@@ -123,8 +123,8 @@ class Journal:
     """A file with what a node has read and written.
 
     Its first line has the words of the process. A line that was handed in begins with '< ', and one that came of it with '> ' and the number of that
-    line among those handed in, from 1; of a tick none is kept. '= period P' begins a period (tools/replay.py). A line is there as a whole before it is
-    handed in; a last one that was cut off is dropped.
+    line among those handed in, from 1; of a tick none is kept. '= period P' begins a period (tools/replay.py). A line is there as a whole before it
+    is handed in; a last one that was cut off is dropped.
     """
 
     def __init__(self, path, words):

@@ -47,7 +47,8 @@ RECORDS = {
 }
 
 # The word of a line that is a number, in records that aren't read further here.
-NUMBERS = {"walked": -1, "table": 4, "link": 1, "pointers": 3, "asked": 1, "answered": 1, "garbled": 1, "cast": 1, "reached": 1, "closed": 1, "spent": 1}
+NUMBERS = {"walked": -1, "table": 4, "link": 1, "pointers": 3, "asked": 1, "answered": 1, "garbled": 1, "cast": 1, "reached": 1, "closed": 1,
+           "spent": 1}
 
 
 class Wrong(Exception):

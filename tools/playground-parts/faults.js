@@ -109,8 +109,9 @@ class Reader {
 // ---- words of steps
 
 const isSalted = settings => settings.base === 16 && settings.digits === 40;
+const hasDigits = (text, base) => [...text].every(digit => DIGITS.slice(0, base).includes(digit));
 const isName = (text, settings) => text.startsWith("@") ? isSalted(settings) && /^@[a-z0-9]{1,64}$/.test(text)
-  : text.length === settings.digits && [...text].every(digit => DIGITS.slice(0, settings.base).includes(digit));
+  : text.length === settings.digits && hasDigits(text, settings.base);
 const isNumber = (text, most) => /^(?:0|[1-9]\d{0,19})$/.test(text) && BigInt(text) <= BigInt(most);
 
 function isObject(text, settings, kind) {
@@ -121,7 +122,7 @@ function isObject(text, settings, kind) {
 function fits(part, text, settings, kind) {
   if (part in WORDS.most) return isNumber(text, WORDS.most[part]);
   if (part === "W") return /^[a-z0-9]{0,32}$/.test(text);
-  if (part === "P") return text === "*" || (text.length <= settings.digits && [...text].every(digit => DIGITS.slice(0, settings.base).includes(digit)));
+  if (part === "P") return text === "*" || (text.length <= settings.digits && hasDigits(text, settings.base));
   if (part === "O") return isObject(text, settings, kind);
   return part === part.toLowerCase() ? text === part : isName(text, settings);
 }
@@ -143,7 +144,8 @@ function wrongWord(text, settings) {
   const written = `it is written "${form.join(" ")}"`;
   if (place >= words.length && bad < 0) return [0, 0, `with it there are more than ${WORDS.mostSteps} steps`];
   if (place >= words.length) return [text.length, text.length, `a word is missing at its end: ${written}`];
-  return [from, from + words[place].length, bad < 0 ? `nothing more stands here: ${written}` : `"${words[place]}" is no ${partWord(form[place], settings)}: ${written}`];
+  const why = bad < 0 ? "nothing more stands here" : `"${words[place]}" is no ${partWord(form[place], settings)}`;
+  return [from, from + words[place].length, `${why}: ${written}`];
 }
 
 // What has to stand at a place of a form.
@@ -172,12 +174,15 @@ function wrongMember(item, list, settings) {
   return list.indexOf(item) > list.findIndex(other => other.data === item.data) ? [item.at, item.end, `"${item.data}" stands twice`] : null;
 }
 
+const wrongStep = item => item.kind === "string" ? null : [item.at, item.end, "a step is a string"];
+
 function placeOfValue(key, value, settings) {
-  const wrongs = { members: item => wrongMember(item, value.items, settings), steps: item => item.kind === "string" ? null : [item.at, item.end, "a step is a string"] };
+  const wrongs = { members: item => wrongMember(item, value.items, settings), steps: wrongStep };
   const inside = wrongs[key] && value.kind === "array" ? value.items.map(wrongs[key]).find(Boolean) : null;
   const over = key === "steps" && value.kind === "array" ? value.items[WORDS.mostSteps] : null;
   if (!inside && over) return [over.at, over.end, `a scenario has at most ${WORDS.mostSteps} steps`];
-  return inside || [value.at, value.end, WORDS.limits[key] ? `${key} is a whole number from ${WORDS.limits[key].join(" to ")}` : `${key} isn't what it has to be`];
+  const limits = WORDS.limits[key];
+  return inside || [value.at, value.end, limits ? `${key} is a whole number from ${limits.join(" to ")}` : `${key} isn't what it has to be`];
 }
 
 // The place of what causes a fault line, from one letter on to another, and why; null if it isn't found.
@@ -197,7 +202,7 @@ function placeOfFault(text, said) {
   if (sort === "value" && keys.has(name)) return placeOfValue(name, keys.get(name).value, settingsOf(keys));
   const item = sort === "step" && keys.has("steps") && (keys.get("steps").value.items || [])[+name - 1];
   if (!item) return null;
-  if (item.kind !== "string") return [item.at, item.end, "a step is a string"];
+  if (wrongStep(item)) return wrongStep(item);
   const wrong = wrongWord(item.data, settingsOf(keys));
   return wrong[0] === wrong[1] && wrong[0] === 0 ? [item.at, item.end, wrong[2]] : within(item, ...wrong);
 }

@@ -1,6 +1,6 @@
-// The memory of the module: what the compiled program asks for room, in blocks of powers of two from 32 bytes. A block stands after a head of 16 bytes,
-// which has its class; freed blocks wait in a list for each class. Memory grows by pages of the browser up to 4 GiB, and what is refused then the
-// program answers as want of memory.
+// The memory of the module: what the compiled program asks for room, in blocks of powers of two from 32 bytes. A block stands after a head of 16
+// bytes, which has its class; freed blocks wait in a list for each class. Memory grows by pages of the browser up to 4 GiB, and what is refused then
+// the program answers as want of memory.
 typedef unsigned long long u64;
 typedef struct {
     u64 is_there;
