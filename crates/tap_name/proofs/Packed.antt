@@ -6,7 +6,7 @@ use Rattle.std.proofs.lemmas.List.Elements.{All-append, All-replicate, All-same}
 use Rattle.std.proofs.lemmas.Slice.Eq.{bytes_eq-Decides}
 use Rattle.std.specs.Cmp.Lexicographic.{pointwise}
 use Rattle.tap_name.specs.Padded.{IsPadded, padded, padded_take}
-use Rattle.tap_name.specs.Packed.{halves, joined, joined-halves}
+use Rattle.tap_name.specs.Packed.{halves, joined, joined-halves, packed}
 use Rattle.tap_name.proofs.Halves.{halves-even, halves-joined, halves-odd}
 use Rattle.tap_name.proofs.Names.{same_tests}
 
@@ -70,6 +70,13 @@ kept bytes places len is padded = subst (λ (all : List ℕ). IsPadded 40 (λ d.
 unpacked : (bytes : List ℕ) (len : ℕ) → IsPadded 40 (λ d. d < 16) (halves bytes) len
     → joined (padded 40 (take len (halves bytes))) ≡ bytes
 unpacked bytes len is = ap joined (padded_take 40 (λ d. d < 16) (halves bytes) len is) ∙ joined-halves bytes
+
+-- the bytes in which a name is kept
+pub is_packed : (bytes : List ℕ) (len : ℕ) (name : List ℕ) → IsPadded 40 (λ d. d < 16) (halves bytes) len
+    → take len (halves bytes) ≡ name → bytes ≡ packed name
+unfolding packed
+is_packed bytes len name is name_is =
+    sym (unpacked bytes len is) ∙ ap (λ (digits : List ℕ). joined (padded 40 digits)) name_is
 
 -- names are kept alike exactly if they are one
 pub same_kept : (mine theirs : List ℕ) (len : ℕ) (xs ys : List ℕ) → IsPadded 40 (λ d. d < 16) (halves mine) len

@@ -1,6 +1,7 @@
 -- Digits two by two, as a name is kept: the first of each two is the high half of a byte, the second the low half.
 use Rattle.std.specs.Prelude.{ℕ, ◌+◌, ◌*◌, ◌^◌, ◌/◌, ◌%◌, zero, suc, List, [], ◌∷◌, get_or}
 use Rattle.std.proofs.Common.{◌≡◌, refl, arith}
+use Rattle.tap_name.specs.Padded.{padded}
 
 -- the high half of each byte, and then its low half
 abbrev pub halves : List ℕ → List ℕ
@@ -12,6 +13,10 @@ abbrev pub joined : List ℕ → List ℕ
 joined [] = []
 joined (high ∷ []) = (high * 16) ∷ []
 joined (high ∷ low ∷ digits) = (high * 16 + low) ∷ joined digits
+
+-- the bytes that a name is kept in: its digits two a byte, and zeros after them, twenty in all
+unfoldable pub packed : List ℕ → List ℕ
+packed digits = joined (padded 40 digits)
 
 -- so many digits from a place on, as one number in which the first is worth the most; digits that aren't there count as 0
 unfoldable pub head_from : ℕ → ℕ → List ℕ → ℕ

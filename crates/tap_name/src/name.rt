@@ -1,4 +1,4 @@
-ghost use Rattle.std.specs.Prelude.{◌≡◌, ◌↔◌, ℕ, ◌+◌, ◌<◌, ◌≤◌, List, [], ◌∷◌, ◌++◌, length, slice_index, All, Some, Ok, nat_eq, IfOk, ◌*◌, min};
+ghost use Rattle.std.specs.Prelude.{◌≡◌, ◌↔◌, ℕ, ◌+◌, ◌<◌, ◌≤◌, List, [], ◌∷◌, ◌++◌, length, slice_index, All, Some, Ok, nat_eq, IfOk, ◌*◌, min, take, drop};
 ghost use Rattle.std.proofs.Common.{rules};
 ghost use Rattle.std.proofs.lemmas.Slice.Eq.{bytes_eq-Decides};
 ghost use Rattle.std.specs.Bool.{OnTrue};
@@ -6,10 +6,11 @@ ghost use Rattle.std.specs.Cmp.{partial_equiv_from_equiv};
 ghost use Rattle.std.specs.Cmp.Lexicographic.{pointwise, slice_cmp, nat_list_eq_equiv, nat_list_cmp_total, texts_po, texts_ties};
 ghost use Rattle.std.specs.Ordering.{nat_cmp};
 ghost use Rattle.std.specs.Hash.{same_Alike};
+ghost use Rattle.std.specs.Int.{from_be_bytes, w64};
 ghost use Rattle.std.specs.List.{common_prefix_len};
 ghost use Rattle.tap_name.specs.Digits.{text_of_digit};
 ghost use Rattle.tap_name.specs.Name.{IsName, name_of_digits};
-ghost use Rattle.tap_name.specs.Packed.{halves, head_from, joined};
+ghost use Rattle.tap_name.specs.Packed.{halves, head_from, joined, packed};
 ghost use Rattle.tap_name.specs.Padded.{padded};
 ghost use Rattle.tap_name.specs.Prefix.{lcp};
 
@@ -287,7 +288,36 @@ fn are_same(mine: &Name, theirs: &Name) -> bool
     if mine.len != theirs.len {
         return false;
     }
-    mine.pairs == theirs.pairs
+    are_same_bytes(&mine.pairs, &theirs.pairs)
+}
+
+// Whether all bytes are the same: in three words of eight, of which the last two overlap.
+#[inline(always)]
+fn are_same_bytes(mine: &[u8; 20], theirs: &[u8; 20]) -> bool
+    ensures { result ≡ pointwise nat_eq mine.now theirs.now }
+{
+    if word_at(mine, 0) != word_at(theirs, 0) || word_at(mine, 8) != word_at(theirs, 8) {
+        return false;
+    }
+    word_at(mine, 12) == word_at(theirs, 12)
+}
+
+// The eight bytes from a place on as one number, in which the first is worth the most.
+#[inline(always)]
+fn word_at(bytes: &[u8; 20], at: usize) -> u64
+    requires { at + 8 ≤ 20 }
+    ensures { result ≡ from_be_bytes w64 (take 8 (drop at bytes.now)) }
+{
+    u64::from_be_bytes([
+        bytes[at],
+        bytes[at + 1],
+        bytes[at + 2],
+        bytes[at + 3],
+        bytes[at + 4],
+        bytes[at + 5],
+        bytes[at + 6],
+        bytes[at + 7],
+    ])
 }
 
 impl Eq for Name {
@@ -343,16 +373,13 @@ fn cmp_digits(mine: &Name, theirs: &Name) -> Ordering
 }
 
 impl Hash for Name {
-    // All digits in one write. Names of one overlay have one length, so that it isn't hashed.
-    ghost hash_input = { λ digits. digits ∷ [] };
+    // All bytes in one write. Names of one overlay have one length, so that it isn't hashed.
+    ghost hash_input = { λ digits. packed digits ∷ [] };
 
-    ghost respects_eq = { (same_Alike (λ digits. digits ∷ []) bytes_eq-Decides).fed };
+    ghost respects_eq = { (same_Alike (λ digits. packed digits ∷ []) bytes_eq-Decides).fed };
 
+    #[inline(always)]
     fn hash<H: Hasher>(&self, state: &mut H) {
-        if self.len() == USUAL_DIGITS {
-            state.write(&self.usual_digits());
-        } else {
-            state.write(self.digits().as_slice());
-        }
+        state.write(&self.pairs);
     }
 }

@@ -10,6 +10,6 @@ returns c =
     let theirs = c.theirs.inside.pairs in
     let len : c.theirs.inside.len ≡ c.mine.inside.len = omega (arith, c.if-mine-theirs.false) in
     let padded = subst (λ (n : ℕ). IsPadded 40 (λ d. d < 16) (halves theirs) n) len c.theirs.invariant in
-    c.eq.ensures
+    c.are_same_bytes.ensures
     ∙ same_kept mine theirs c.mine.inside.len c.args.mine.now c.args.theirs.now c.mine.invariant padded c.mine.view_is
     (ap (λ (n : ℕ). take n (halves theirs)) (sym len) ∙ c.theirs.view_is)
