@@ -8,6 +8,7 @@ use Rattle.hex.specs.Hex.{decode_of, decode_pairs, hex_digit_value}
 use Rattle.hex.proofs.HexLemmas.{decode_of-even}
 use Rattle.tap_name.specs.Digits.{digit_of_text}
 use Rattle.tap_name.specs.Packed.{joined}
+use Rattle.tap_name.proofs.Halves.{joined_front}
 
 -- a digit without a capital letter is read as it is printed
 digit_read : (byte : ℕ) → digit_of_text byte < 16 → hex_digit_value byte ≡ Some (digit_of_text byte)
@@ -33,14 +34,6 @@ pub digits_read : (n : ℕ) (text : List ℕ) → length text ≡ 2 * n → All 
 digits_read n text len all = decode_of-even text (omega (arith, len)) ∙ pairs_read n 0 text len all
 
 -- ---- digits in the first of many places
-
-joined_front : (n : ℕ) (digits others : List ℕ) → length digits ≡ 2 * n → take n (joined (digits ++ others)) ≡ joined digits
-joined_front zero [] others len = refl
-joined_front zero (x ∷ digits) others len = absurd (omega (arith, len))
-joined_front (suc n) [] others len = absurd (omega (arith, len))
-joined_front (suc n) (x ∷ []) others len = absurd (omega (arith, len))
-joined_front (suc n) (x ∷ y ∷ digits) others len =
-    ap (λ (bytes : List ℕ). (x * 16 + y) ∷ bytes) (joined_front n digits others (omega (arith, len)))
 
 pub few_read : (n : ℕ) (text front others : List ℕ) → length text ≡ 2 * n → front ≡ map digit_of_text text
     → All (λ digit. digit < 16) front → decode_of text ≡ Ok (take n (joined (front ++ others)))

@@ -1,4 +1,3 @@
-mod Bytes
 mod Hexes
 mod Known
 mod Members

@@ -1,4 +1,3 @@
-mod Bytes
 mod Decimals
 mod Rests
 mod Taken

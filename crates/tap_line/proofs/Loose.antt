@@ -10,6 +10,7 @@ use Rattle.hex.specs.Hex.{encode_lower, encode_with, lower_digits}
 use Rattle.tap_name.specs.Digits.{text_of_digit}
 use Rattle.tap_name.specs.Name.{text_of_name}
 use Rattle.tap_name.specs.Packed.{joined}
+use Rattle.tap_name.proofs.Halves.{joined_front}
 use Rattle.tap_report.proofs.TextLemmas.{lower_digit}
 use Rattle.tap_line.specs.Front.{bytes_of_hex}
 use Rattle.tap_line.specs.Hexadecimal.{is_digit, loose_value}
@@ -118,14 +119,6 @@ taken_more text values at inside room is =
     ∙ sym (ap (map loose_value) (take_more text at 0 inside) ∙ map-append loose_value (take at text) (get_or text at 0 ∷ []))
 
 -- ---- digits in the first of many places
-
-joined_front : (n : ℕ) (digits others : List ℕ) → length digits ≡ 2 * n → take n (joined (digits ++ others)) ≡ joined digits
-joined_front zero [] others len = refl
-joined_front zero (x ∷ digits) others len = absurd (omega (arith, len))
-joined_front (suc n) [] others len = absurd (omega (arith, len))
-joined_front (suc n) (x ∷ []) others len = absurd (omega (arith, len))
-joined_front (suc n) (x ∷ y ∷ digits) others len =
-    ap (λ (bytes : List ℕ). (x * 16 + y) ∷ bytes) (joined_front n digits others (omega (arith, len)))
 
 pub few_joined : (n : ℕ) (text front others : List ℕ) → length text ≡ 2 * n → front ≡ map loose_value text
     → take n (joined (front ++ others)) ≡ joined (map loose_value text)

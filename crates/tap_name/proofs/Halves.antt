@@ -1,5 +1,5 @@
 -- bytes and their halves: two digits a byte, and back
--- Cited above: halves-digits, halves-length, joined-all, joined-more
+-- Cited above: halves-digits, halves-length, joined-all, joined-more, joined_front
 use Rattle.std.proofs.Common.{◌≡◌, ◌++◌, ◌+◌, ◌-◌, ◌*◌, ◌/◌, ◌%◌, ◌<◌, ◌≤◌, ◌∙◌, ℕ, zero, suc, List, [], ◌∷◌, take, replicate, length, length-set, set, get_or, take_all, All, refl, ap, sym, arith}
 use Rattle.std.proofs.lemmas.List.{take_more, take_more_set, length-take-le, append_assoc}
 use Rattle.std.proofs.lemmas.List.Elements.{All-nil, All-cons, All-head, All-tail}
@@ -70,6 +70,15 @@ pub halves-all : (places bytes : List ℕ) (at : ℕ) → length bytes ≤ at �
 halves-all places bytes at end len is =
     sym (take_all (2 * at) places (omega (arith, len, end))) ∙ is
     ∙ take_all (2 * at) (halves bytes) (omega (arith, halves-length bytes, end))
+
+-- the first of many digits
+pub joined_front : (n : ℕ) (digits others : List ℕ) → length digits ≡ 2 * n → take n (joined (digits ++ others)) ≡ joined digits
+joined_front zero [] others len = refl
+joined_front zero (x ∷ digits) others len = absurd (omega (arith, len))
+joined_front (suc n) [] others len = absurd (omega (arith, len))
+joined_front (suc n) (x ∷ []) others len = absurd (omega (arith, len))
+joined_front (suc n) (x ∷ y ∷ digits) others len =
+    ap (λ (bytes : List ℕ). (x * 16 + y) ∷ bytes) (joined_front n digits others (omega (arith, len)))
 
 joined_last : (n : ℕ) (digits : List ℕ) (high low : ℕ) → length digits ≡ 2 * n
     → joined (digits ++ high ∷ low ∷ []) ≡ joined digits ++ (high * 16 + low) ∷ []

@@ -1,4 +1,5 @@
--- bytes that are told one by one
+-- bytes that are known one by one
+-- Cited above: same_bytes
 use Rattle.std.proofs.Common.{◌≡◌, ℕ, suc, List, [], ◌∷◌, length, get_or}
 
 -- from this place on, these stand in a list

@@ -1,6 +1,6 @@
 mod Alike
 mod Arrays
-mod Bytes
+pub mod Bytes
 mod Casts
 mod Decimals
 mod Keys

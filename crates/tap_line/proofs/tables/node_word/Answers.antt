@@ -1,5 +1,5 @@
 use Rattle.std.proofs.Common.{rules, arith, ◌≡◌, length, codes, refl}
-use Rattle.tap_line.proofs.Bytes.{same_bytes}
+use Rattle.tap_scenario.proofs.Bytes.{same_bytes}
 use Rattle.tap_line.proofs.tables.node_word.Goals as goal
 
 pub returns-in-joining : goal.returns-in-joining

@@ -1,5 +1,5 @@
 use Rattle.std.proofs.Common.{rules, arith, ◌≡◌, length, codes, refl}
-use Rattle.tap_host_line.proofs.Bytes.{same_bytes}
+use Rattle.tap_scenario.proofs.Bytes.{same_bytes}
 use Rattle.tap_host_line.proofs.verb.Verb.of.Goals as goal
 
 pub returns-in-packet : goal.returns-in-packet
