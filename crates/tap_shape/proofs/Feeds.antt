@@ -1,12 +1,81 @@
 -- Where the first line feed of a text stands, and how many there are.
-use Rattle.std.proofs.Common.{◌≡◌, ◌==◌, ℕ, ◌+◌, ◌-◌, ◌<◌, ◌≤◌, false, arith, List, ◌∷◌, ◌++◌, length, take, drop, get_or, length-drop, length-take, take-append-drop, cond, Option, None, Some, refl, ap, sym, subst, ◌∙◌, inl, inr}
-use Rattle.std.proofs.lemmas.Bool.{cases_Bool, eqb-true}
+use Rattle.std.proofs.Common.{◌≡◌, ◌==◌, ℕ, zero, suc, ◌+◌, ◌-◌, ◌<◌, ◌≤◌, true, false, arith, List, [], ◌∷◌, ◌++◌, length, take, drop, get_or, length-drop, length-take, take-append-drop, cond, Option, None, Some, refl, ap, sym, subst, ◌∙◌, inl, inr, zero-add, IfSome}
+use Rattle.std.proofs.lemmas.Bool.{cases_Bool, cases_lt, eqb-true}
 use Rattle.std.proofs.lemmas.List.{drop_more, get_or-take, take_all}
 use Rattle.std.proofs.lemmas.List.Elements.{All-from_get_or}
 use Rattle.std.proofs.lemmas.List.Sums.{sum_by-take-drop}
-use Rattle.memchr.specs.Find.{IsFirstByte, Nowhere, Passes, is_byte}
+use Rattle.memchr.specs.Find.{IsFirstByte, NoneBefore, Nowhere, Passes, TakesFirst, is_byte, places, places_from}
 use Rattle.tap_line.specs.Laws.{HasNoFeed}
 use Rattle.tap_shape.specs.Text.{line_count}
+
+-- ---- the first of all places
+
+module _ (text : List ℕ) where
+  -- a place, or a later one
+  or_later : (P : ℕ → Type 0) (i k : ℕ) → i ≤ k → (P i → ⊥) → (i + 1 ≤ k → P k → ⊥) → P k → ⊥
+  or_later P i k low here later there =
+      elim (cases_lt i k) [
+        | inl less ↦ later (omega arith) there
+        | inr least ↦ let same : k ≡ i = omega arith in here (subst P same there)
+      ]
+
+  not_here : (i : ℕ) → (get_or text i 0 == 10) ≡ false → Passes (is_byte 10) text i → ⊥
+  not_here i other here = let wrong : false ≡ true = sym other ∙ here in cc
+
+  none_passes : (i n : ℕ) → places_from (is_byte 10) text i n ≡ [] → Nowhere (Passes (is_byte 10) text) i (i + n)
+  unfolding places_from
+  none_passes i zero is = λ k low high here. absurd (omega arith)
+  none_passes i (suc n) is =
+      elim (cases_Bool (get_or text i 0 == 10)) [
+        | inl here ↦ let wrong : i ∷ places_from (is_byte 10) text (i + 1) n ≡ [] = rw here at is in absurd (cc)
+        | inr other ↦
+            let later = none_passes (i + 1) n (rw other at is) in
+            λ k low high. or_later (Passes (is_byte 10) text) i k low (not_here i other) (λ more. later k more (omega arith))
+      ]
+
+  first_passes : (i n at : ℕ) (rest : List ℕ) → places_from (is_byte 10) text i n ≡ at ∷ rest
+      → NoneBefore (Passes (is_byte 10) text) i (i + n) at × Passes (is_byte 10) text at
+  unfolding places_from
+  first_passes i zero at rest is = absurd (cc)
+  first_passes i (suc n) at rest is =
+      elim (cases_Bool (get_or text i 0 == 10)) [
+        | inl here ↦
+            let first : i ∷ places_from (is_byte 10) text (i + 1) n ≡ at ∷ rest = rw here at is in
+            let same : i ≡ at = cc in (
+              record { low = omega arith; high = omega arith; before = λ k low high there. absurd (omega arith) },
+              subst (Passes (is_byte 10) text) same here,
+            )
+        | inr other ↦
+            let later = first_passes (i + 1) n at rest (rw other at is) in
+            let low = later.0.low in
+            let high = later.0.high in (
+              record {
+                low = omega (arith, low);
+                high = omega (arith, high);
+                before = λ k least less.
+                    or_later (Passes (is_byte 10) text) i k least (not_here i other) (λ more. later.0.before k more less);
+              },
+              later.1,
+            )
+      ]
+
+  all_places : places (is_byte 10) text ≡ places_from (is_byte 10) text 0 (length text)
+  all_places = let all : length text - 0 ≡ length text = omega arith in ap (places_from (is_byte 10) text 0) all
+
+  -- what is taken first of all places is the first one
+  pub first_of_all : (rest : List ℕ) (found : Option ℕ) → TakesFirst (places (is_byte 10) text) found rest → IsFirstByte (is_byte 10) text found
+  first_of_all rest None takes =
+      subst (Nowhere (Passes (is_byte 10) text) 0) (zero-add (length text)) (none_passes 0 (length text) (sym all_places ∙ takes.0))
+  first_of_all rest (Some at) takes =
+      subst (λ n. NoneBefore (Passes (is_byte 10) text) 0 n at × Passes (is_byte 10) text at) (zero-add (length text))
+      (first_passes 0 (length text) at rest (sym all_places ∙ takes))
+
+-- it stands in the text
+pub first_inside : (text : List ℕ) (found : Option ℕ) → IsFirstByte (is_byte 10) text found → IfSome found (λ at. at < length text)
+first_inside text None first = tt
+first_inside text (Some at) first = first.0.high
+
+-- ---- where a text is parted
 
 -- the text is parted at its first line feed
 pub record PartedAt (text : List ℕ) (at : ℕ) : Type 0 where

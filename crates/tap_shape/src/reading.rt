@@ -7,7 +7,7 @@ ghost use Rattle.tap_shape.specs.Text.{IsNotLog, IsTextOf, line_count};
 use crate::fault::LogFault;
 use crate::reader::Begun;
 use crate::records::Records;
-use memchr::memchr;
+use memchr::memchr_iter;
 use std::alloc::Global;
 use tap_line::{Beginning, Line, LineFault, read_begin, read_line};
 use tap_log::{Log, NoMemory};
@@ -41,12 +41,12 @@ fn line_count(bytes: &[u8]) -> usize
     count + piece_line_count(rest) as usize
 }
 
-// The place of the first line feed.
+// The place of the first line feed. The iterator over all of them looks near by first, as most lines are short.
 pub(crate) fn first_feed(text: &[u8]) -> Option<usize>
     ensures first { IsFirstByte (is_byte 10) text.now result }
     ensures inside { IfSome result (λ at. at < length text.now) }
 {
-    memchr(b'\n', text)
+    memchr_iter(b'\n', text).next()
 }
 
 // What stands before this place.
