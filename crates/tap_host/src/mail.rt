@@ -89,7 +89,7 @@ impl Mail {
         // Each frame that awaits has a number that was given before.
         let _given = self.outbox.awaiting();
         let seq = self.outbox.send(to, self.outbox.next())?;
-        put_packet(self.alloc, out, &to, seq, frame.as_slice())?;
+        put_packet(out, &to, seq, frame.as_slice())?;
         keep(&mut self.frames, to, seq, frame)
     }
 
@@ -108,13 +108,7 @@ impl Mail {
         let mut awaits = Vec::new(self.alloc);
         self.outbox.gather(&mut awaits)?;
         for item in &awaits {
-            put_packet(
-                self.alloc,
-                out,
-                &item.to,
-                item.seq,
-                frame_of(&self.frames, item),
-            )?;
+            put_packet(out, &item.to, item.seq, frame_of(&self.frames, item))?;
         }
         Ok(())
     }

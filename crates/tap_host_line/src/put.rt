@@ -1,25 +1,18 @@
 ghost use Rattle.std.specs.Prelude.{◌≡◌, ◌<◌, ◌++◌, [], All, length, codes, decimal, OnOk, if◌then◌else◌};
-ghost use Rattle.hex.specs.Hex.{encode_lower};
 ghost use Rattle.tap_name.specs.Name.{text_of_name};
 ghost use Rattle.tap_host_line.specs.Texts.{text_of_ack, text_of_begun, text_of_count, text_of_news, text_of_packet, text_of_refused, text_of_server, text_of_status};
 
+use crate::hexadecimal::put_hex;
 use crate::memory::NoMemory;
 use crate::why::Why;
 use itoa::Buffer;
-use std::alloc::Global;
 use tap_name::{Name, text_of_digit};
 use tap_node_common::News;
 
 /// Adds the line of a packet that carries this frame.
 ///
 /// Rule: docs/NETWORK.md, "Lines".
-pub fn put_packet(
-    alloc: Global,
-    out: &mut Vec<u8>,
-    to: &Name,
-    seq: u32,
-    frame: &[u8],
-) -> Result<(), NoMemory>
+pub fn put_packet(out: &mut Vec<u8>, to: &Name, seq: u32, frame: &[u8]) -> Result<(), NoMemory>
     ensures { OnOk result (out.new.items ≡ out.old.items ++ text_of_packet to.now seq frame.now) }
 {
     out.extend_from_slice(b"packet ")?;
@@ -27,7 +20,7 @@ pub fn put_packet(
     out.extend_from_slice(b" ")?;
     put_number(out, seq)?;
     out.extend_from_slice(b" ")?;
-    put_hex(alloc, out, frame)?;
+    put_hex(out, frame)?;
     out.extend_from_slice(b"\n")?;
     Ok(())
 }
@@ -174,14 +167,16 @@ fn put_text(out: &mut Vec<u8>, text: &[u8]) -> Result<(), NoMemory>
     Ok(())
 }
 
-// Adds a name, a byte for each digit.
+// Adds a name, a byte for each digit. All places are printed at once, and the first of them taken.
 fn put_name(out: &mut Vec<u8>, name: &Name) -> Result<(), NoMemory>
     ensures { OnOk result (out.new.items ≡ out.old.items ++ text_of_name name.now) }
 {
     let digits = name.digits();
     let digits = digits.as_slice();
+    let mut places = [0; 40];
+    places[..digits.len()].copy_from_slice(digits);
     let mut text = [0; 40];
-    print_digits(digits, &mut text[..digits.len()]);
+    print_digits(&places, &mut text);
     out.extend_from_slice(&text[..digits.len()])?;
     Ok(())
 }
@@ -204,14 +199,5 @@ fn put_number(out: &mut Vec<u8>, number: u32) -> Result<(), NoMemory>
 {
     let mut buffer = Buffer::new();
     out.extend_from_slice(buffer.format(number).as_bytes())?;
-    Ok(())
-}
-
-// Adds bytes in hexadecimal.
-fn put_hex(alloc: Global, out: &mut Vec<u8>, bytes: &[u8]) -> Result<(), NoMemory>
-    ensures { OnOk result (out.new.items ≡ out.old.items ++ encode_lower bytes.now) }
-{
-    let text = hex::encode(alloc, bytes)?;
-    out.extend_from_slice(text.as_bytes())?;
     Ok(())
 }
