@@ -1,14 +1,12 @@
 -- Hexadecimal digits that are taken at once.
-use Rattle.std.proofs.Common.{◌≡◌, ℕ, zero, suc, ◌+◌, ◌-◌, ◌*◌, ◌/◌, ◌%◌, ◌<◌, ◌≤◌, List, [], ◌∷◌, ◌++◌, drop, length, map, replicate, take, All, Some, refl, ap, sym, subst, take-add, take_all, append_assoc, ◌∙◌, arith}
-use Rattle.std.specs.Prelude.{Ok, slice_index, slice_range}
+use Rattle.std.proofs.Common.{◌≡◌, ℕ, zero, suc, ◌+◌, ◌*◌, ◌/◌, ◌%◌, ◌<◌, List, [], ◌∷◌, ◌++◌, drop, length, map, replicate, take, All, Some, refl, ap, sym, subst, ◌∙◌, arith}
+use Rattle.std.specs.Prelude.{Ok}
 use Rattle.std.proofs.lemmas.Bool.Decides.{nat_tests}
 use Rattle.std.proofs.lemmas.List.{length-map}
-use Rattle.std.proofs.lemmas.List.FromFn.{get_or-map-range_with_len}
 use Rattle.std.proofs.lemmas.List.Elements.{All-append, All-drop, All-head, All-replicate, All-tail}
-use Rattle.hex.specs.Hex.{decode_of, decode_pairs, encode_lower, encode_with, hex_digit_value, lower_digits}
+use Rattle.hex.specs.Hex.{decode_of, decode_pairs, hex_digit_value}
 use Rattle.hex.proofs.HexLemmas.{decode_of-even}
-use Rattle.tap_name.specs.Digits.{digit_of_text, text_of_digit}
-use Rattle.tap_name.specs.Name.{text_of_name}
+use Rattle.tap_name.specs.Digits.{digit_of_text}
 use Rattle.tap_name.specs.Packed.{joined}
 use Rattle.tap_name.proofs.Halves.{joined_front}
 
@@ -50,17 +48,6 @@ few_small front skipped count all =
     All-append (λ digit. digit < 16) front (drop skipped (replicate count 0)) all
     (All-drop (λ digit. digit < 16) skipped (replicate count 0) (All-replicate (λ digit. digit < 16) count 0 (omega arith)))
 
-few_texts : (digits others : List ℕ) → take (length digits) (text_of_name (digits ++ others)) ≡ text_of_name digits
-few_texts [] others = refl
-few_texts (digit ∷ digits) others = ap (λ (text : List ℕ). text_of_digit digit ∷ text) (few_texts digits others)
-
--- the digits of a name that are printed there
-pub few_printed : (name digits front others text : List ℕ) → digits ≡ name → front ≡ digits → text ≡ text_of_name (front ++ others)
-    → take (length digits) text ≡ text_of_name name
-few_printed name digits front others text of is all =
-    ap (take (length digits)) (all ∙ ap (λ (first : List ℕ). text_of_name (first ++ others)) is)
-    ∙ few_texts digits others ∙ ap text_of_name of
-
 -- ---- two digits that are put together by one product
 
 pub product_joins : (first second : ℕ) → first < 16 → second < 16 → (first + 256 * second) * 4097 % 65536 / 256 ≡ first * 16 + second
@@ -70,32 +57,3 @@ product_joins first second small also =
     let rest : (first + 256 * second) * 4097 % 65536 ≡ first * 4097 + 256 * second = omega (arith, low, split) in
     let high : (first * 4097 + 256 * second) / 256 ≡ first * 16 + second = omega (arith, small) in
     ap (λ n. n / 256) rest ∙ high
-
--- ---- bytes that are printed
-
--- the digits in their order
-pub digit_printed : (d : ℕ) → d < 16 → text_of_digit d ≡ slice_index lower_digits d
-digit_printed d below = sym (get_or-map-range_with_len text_of_digit 0 16 d d 0 below (omega arith))
-
-encoded_append : (bytes more : List ℕ) → encode_lower (bytes ++ more) ≡ encode_lower bytes ++ encode_lower more
-unfolding encode_with
-encoded_append [] more = refl
-encoded_append (byte ∷ bytes) more =
-    ap (λ (text : List ℕ). slice_index lower_digits (byte / 16) ∷ slice_index lower_digits (byte % 16) ∷ text) (encoded_append bytes more)
-
--- a piece is printed after all before it
-pub piece_printed : (old so_far bytes : List ℕ) (from to : ℕ) → from ≤ to → so_far ≡ old ++ encode_lower (take from bytes)
-    → so_far ++ encode_lower (slice_range bytes from to) ≡ old ++ encode_lower (take to bytes)
-piece_printed old so_far bytes from to later is =
-    let front = encode_lower (take from bytes) in
-    let sum : to ≡ from + (to - from) = omega (arith, later) in
-    let all : encode_lower (take to bytes) ≡ front ++ encode_lower (slice_range bytes from to) =
-    ap (λ n. encode_lower (take n bytes)) sum ∙ ap encode_lower (take-add from (to - from) bytes)
-    ∙ encoded_append (take from bytes) (slice_range bytes from to) in
-    ap (λ (text : List ℕ). text ++ encode_lower (slice_range bytes from to)) is
-    ∙ append_assoc old front (encode_lower (slice_range bytes from to)) ∙ sym (ap (λ (text : List ℕ). old ++ text) all)
-
--- and all are printed in the end
-pub all_printed : (old so_far bytes : List ℕ) (done : ℕ) → length bytes ≤ done → so_far ≡ old ++ encode_lower (take done bytes)
-    → so_far ≡ old ++ encode_lower bytes
-all_printed old so_far bytes done end is = is ∙ ap (λ (front : List ℕ). old ++ encode_lower front) (take_all done bytes end)

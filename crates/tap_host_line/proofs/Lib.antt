@@ -1,3 +1,4 @@
+mod Drafts
 mod Hexes
 mod Known
 mod Members

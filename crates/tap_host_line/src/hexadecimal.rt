@@ -1,17 +1,15 @@
-ghost use Rattle.std.specs.Prelude.{◌≡◌, ◌+◌, ◌<◌, ◌≤◌, ◌*◌, ◌++◌, All, length, map, Ok, IfOk, IfSome, OnOk, option_map};
+ghost use Rattle.std.specs.Prelude.{◌≡◌, ◌+◌, ◌<◌, ◌≤◌, ◌*◌, All, length, map, Ok, IfOk, IfSome, option_map};
 ghost use Rattle.std.specs.Bool.{OnTrue};
-ghost use Rattle.hex.specs.Hex.{decode_of, encode_lower};
+ghost use Rattle.hex.specs.Hex.{decode_of};
 ghost use Rattle.tap_name.specs.Digits.{digit_of_text};
 ghost use Rattle.tap_name.specs.Packed.{joined};
 ghost use Rattle.tap_host_line.specs.Line.{frame_of_word};
 
+use crate::draft::FEW_BYTES;
 use crate::memory::NoMemory;
 use hex::FromHexError;
 use std::alloc::Global;
 use tap_name::text_of_digit;
-
-// Nearly all frames have at most so many bytes; they are put together without a list of their own.
-const FEW_BYTES: usize = 256;
 
 // The value of a digit, and 16 if the byte is none. It is made by numbers alone, without a branch, since many are made at once.
 #[inline(always)]
@@ -130,42 +128,4 @@ pub(crate) fn bytes_of_hex(alloc: Global, word: &[u8]) -> Result<Option<Vec<u8>>
         Err(FromHexError::OutOfMemory) => Err(NoMemory),
         Err(_) => Ok(None),
     }
-}
-
-// Prints bytes in hexadecimal, each in two places. The digits are made by numbers alone, so that many bytes are printed at once.
-#[inline(always)]
-fn print_hex(bytes: &[u8], text: &mut [u8])
-    requires { length text.old ≡ 2 * length bytes.now }
-    ensures { text.new ≡ encode_lower bytes.now }
-{
-    for at in 0..bytes.len() {
-        text[2 * at] = text_of_digit(bytes[at] / 16);
-        text[2 * at + 1] = text_of_digit(bytes[at] % 16);
-    }
-}
-
-// Adds so few bytes in hexadecimal.
-#[inline(always)]
-fn put_few(out: &mut Vec<u8>, bytes: &[u8]) -> Result<(), NoMemory>
-    requires { length bytes.now ≤ FEW_BYTES }
-    ensures { OnOk result (out.new.items ≡ out.old.items ++ encode_lower bytes.now) }
-{
-    let len = 2 * bytes.len();
-    let mut text = [0; 2 * FEW_BYTES];
-    print_hex(bytes, &mut text[..len]);
-    out.extend_from_slice(&text[..len])?;
-    Ok(())
-}
-
-// Adds bytes in hexadecimal, a few at a time.
-pub(crate) fn put_hex(out: &mut Vec<u8>, bytes: &[u8]) -> Result<(), NoMemory>
-    ensures { OnOk result (out.new.items ≡ out.old.items ++ encode_lower bytes.now) }
-{
-    let mut done = 0;
-    while done < bytes.len() {
-        let end = bytes.len().min(done + FEW_BYTES);
-        put_few(out, &bytes[done..end])?;
-        done = end;
-    }
-    Ok(())
 }

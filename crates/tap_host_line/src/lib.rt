@@ -6,6 +6,7 @@
 
 mod asked;
 mod command;
+mod draft;
 mod hexadecimal;
 mod line;
 mod memory;

@@ -1,12 +1,13 @@
-ghost use Rattle.std.specs.Prelude.{◌≡◌, ◌<◌, ◌++◌, [], All, length, codes, decimal, OnOk, if◌then◌else◌};
+ghost use Rattle.std.specs.Prelude.{◌≡◌, ◌++◌, [], codes, decimal, OnOk, if◌then◌else◌};
+ghost use Rattle.hex.specs.Hex.{encode_lower};
 ghost use Rattle.tap_name.specs.Name.{text_of_name};
 ghost use Rattle.tap_host_line.specs.Texts.{text_of_ack, text_of_begun, text_of_count, text_of_news, text_of_packet, text_of_refused, text_of_server, text_of_status};
 
-use crate::hexadecimal::put_hex;
+use crate::draft::{Draft, FEW_BYTES};
 use crate::memory::NoMemory;
 use crate::why::Why;
 use itoa::Buffer;
-use tap_name::{Name, text_of_digit};
+use tap_name::Name;
 use tap_node_common::News;
 
 /// Adds the line of a packet that carries this frame.
@@ -15,14 +16,20 @@ use tap_node_common::News;
 pub fn put_packet(out: &mut Vec<u8>, to: &Name, seq: u32, frame: &[u8]) -> Result<(), NoMemory>
     ensures { OnOk result (out.new.items ≡ out.old.items ++ text_of_packet to.now seq frame.now) }
 {
-    out.extend_from_slice(b"packet ")?;
-    put_name(out, to)?;
-    out.extend_from_slice(b" ")?;
-    put_number(out, seq)?;
-    out.extend_from_slice(b" ")?;
+    let mut line = Draft::new();
+    line.push(b"packet ");
+    line.push_name(to);
+    line.push(b" ");
+    line.push_number(seq);
+    line.push(b" ");
+    if frame.len() <= FEW_BYTES {
+        line.push_hex(frame);
+        line.push(b"\n");
+        return put_text(out, line.text());
+    }
+    put_text(out, line.text())?;
     put_hex(out, frame)?;
-    out.extend_from_slice(b"\n")?;
-    Ok(())
+    put_text(out, b"\n")
 }
 
 /// Adds the line of the acknowledgement of a number.
@@ -31,12 +38,13 @@ pub fn put_packet(out: &mut Vec<u8>, to: &Name, seq: u32, frame: &[u8]) -> Resul
 pub fn put_ack(out: &mut Vec<u8>, to: &Name, seq: u32) -> Result<(), NoMemory>
     ensures { OnOk result (out.new.items ≡ out.old.items ++ text_of_ack to.now seq) }
 {
-    out.extend_from_slice(b"ack ")?;
-    put_name(out, to)?;
-    out.extend_from_slice(b" ")?;
-    put_number(out, seq)?;
-    out.extend_from_slice(b"\n")?;
-    Ok(())
+    let mut line = Draft::new();
+    line.push(b"ack ");
+    line.push_name(to);
+    line.push(b" ");
+    line.push_number(seq);
+    line.push(b"\n");
+    put_text(out, line.text())
 }
 
 /// Adds the line that a start was taken.
@@ -167,30 +175,29 @@ fn put_text(out: &mut Vec<u8>, text: &[u8]) -> Result<(), NoMemory>
     Ok(())
 }
 
-// Adds a name, a byte for each digit. All places are printed at once, and the first of them taken.
+// Adds a name, a byte for each digit.
 fn put_name(out: &mut Vec<u8>, name: &Name) -> Result<(), NoMemory>
     ensures { OnOk result (out.new.items ≡ out.old.items ++ text_of_name name.now) }
 {
-    let digits = name.digits();
-    let digits = digits.as_slice();
-    let mut places = [0; 40];
-    places[..digits.len()].copy_from_slice(digits);
-    let mut text = [0; 40];
-    print_digits(&places, &mut text);
-    out.extend_from_slice(&text[..digits.len()])?;
-    Ok(())
+    let mut text = Draft::new();
+    text.push_name(name);
+    put_text(out, text.text())
 }
 
-// Prints digits, each in its place.
-#[inline(always)]
-fn print_digits(digits: &[u8], text: &mut [u8])
-    requires places { length text.old ≡ length digits.now }
-    requires below { All (λ digit. digit < 16) digits.now }
-    ensures { text.new ≡ text_of_name digits.now }
+// Adds bytes in hexadecimal, a few at a time.
+#[inline(never)]
+fn put_hex(out: &mut Vec<u8>, bytes: &[u8]) -> Result<(), NoMemory>
+    ensures { OnOk result (out.new.items ≡ out.old.items ++ encode_lower bytes.now) }
 {
-    for at in 0..digits.len() {
-        text[at] = text_of_digit(digits[at]);
+    let mut done = 0;
+    while done < bytes.len() {
+        let end = bytes.len().min(done + FEW_BYTES);
+        let mut text = Draft::new();
+        text.push_hex(&bytes[done..end]);
+        put_text(out, text.text())?;
+        done = end;
     }
+    Ok(())
 }
 
 // Adds a number in decimal.

@@ -1,6 +1,6 @@
 use Rattle.std.proofs.Common.{◌≡◌, ◌≤◌, ◌-◌, ◌++◌, length, take}
 use Rattle.hex.specs.Hex.{encode_lower}
-use Rattle.tap_host_line.proofs.hexadecimal.put_hex.Given as goal
+use Rattle.tap_host_line.proofs.put.put_hex.Given as goal
 
 abbrev pub invariant-loop-done : goal.invariant-loop-done
 invariant-loop-done l = record {

@@ -1,0 +1,124 @@
+ghost use Rattle.std.specs.Prelude.{◌≡◌, ◌<◌, ◌≤◌, ◌+◌, ◌*◌, ◌++◌, [], All, length, decimal};
+ghost use Rattle.hex.specs.Hex.{encode_lower};
+ghost use Rattle.tap_name.specs.Name.{text_of_name};
+
+use itoa::Buffer;
+use std::marker::Model;
+use tap_name::{Name, text_of_digit};
+
+// Nearly all frames have at most so many bytes; these are read and printed at once, without a list of their own.
+pub(crate) const FEW_BYTES: usize = 256;
+
+// There is room for the line of a packet with such a frame, which has a word, a name, a number, three spaces and its end besides.
+const ROOM: usize = 2 * FEW_BYTES + 64;
+
+// A line that is put together in a room on the stack, so that all of it is added at once. Contracts see its bytes.
+#[derive(Drop)]
+pub(crate) struct Draft {
+    // So many bytes are there.
+    len: usize,
+    // They stand in the first places.
+    room: [u8; ROOM],
+}
+
+impl Model for Draft {
+    ghost use Rattle.std.specs.Prelude.{◌≤◌, List, ℕ, take};
+
+    ghost Value = { List ℕ };
+
+    ghost view = { λ d. take d.len d.room };
+
+    ghost invariant = { λ d. d.len ≤ 576 };
+}
+
+impl Draft {
+    // Nothing is there.
+    #[inline(always)]
+    pub(crate) fn new() -> Draft
+        ensures { result ≡ [] }
+    {
+        Draft {
+            len: 0,
+            room: [0; ROOM],
+        }
+    }
+
+    // Its bytes.
+    #[inline(always)]
+    pub(crate) fn text(&self) -> &[u8]
+        ensures { result.now ≡ self.now }
+    {
+        &self.room[..self.len]
+    }
+
+    // Adds bytes for which there is room.
+    #[inline(always)]
+    pub(crate) fn push(&mut self, bytes: &[u8])
+        requires { length self.old + length bytes.now ≤ 576 }
+        ensures text { self.new ≡ self.old ++ bytes.now }
+        ensures len { length self.new ≡ length self.old + length bytes.now }
+    {
+        let end = self.len + bytes.len();
+        self.room[self.len..end].copy_from_slice(bytes);
+        self.len = end;
+    }
+
+    // Adds a name, a byte for each digit. All places are printed at once, and the first of them taken.
+    pub(crate) fn push_name(&mut self, name: &Name)
+        requires { length self.old + 40 ≤ 576 }
+        ensures text { self.new ≡ self.old ++ text_of_name name.now }
+        ensures len { length self.new ≤ length self.old + 40 }
+    {
+        let digits = name.digits();
+        let digits = digits.as_slice();
+        let mut places = [0; 40];
+        places[..digits.len()].copy_from_slice(digits);
+        print_digits(&places, &mut self.room[self.len..self.len + 40]);
+        self.len += digits.len();
+    }
+
+    // Adds a number in decimal.
+    pub(crate) fn push_number(&mut self, number: u32)
+        requires { length self.old + 10 ≤ 576 }
+        ensures text { self.new ≡ self.old ++ decimal number }
+        ensures len { length self.new ≤ length self.old + 10 }
+    {
+        let mut buffer = Buffer::new();
+        self.push(buffer.format(number).as_bytes());
+    }
+
+    // Adds bytes in hexadecimal.
+    pub(crate) fn push_hex(&mut self, bytes: &[u8])
+        requires { length self.old + 2 * length bytes.now ≤ 576 }
+        ensures text { self.new ≡ self.old ++ encode_lower bytes.now }
+        ensures len { length self.new ≡ length self.old + 2 * length bytes.now }
+    {
+        let end = self.len + 2 * bytes.len();
+        print_hex(bytes, &mut self.room[self.len..end]);
+        self.len = end;
+    }
+}
+
+// Prints digits, each in its place.
+#[inline(always)]
+fn print_digits(digits: &[u8], text: &mut [u8])
+    requires places { length text.old ≡ length digits.now }
+    requires below { All (λ digit. digit < 16) digits.now }
+    ensures { text.new ≡ text_of_name digits.now }
+{
+    for at in 0..digits.len() {
+        text[at] = text_of_digit(digits[at]);
+    }
+}
+
+// Prints bytes in hexadecimal, each in two places. The digits are made by numbers alone, so that many bytes are printed at once.
+#[inline(always)]
+fn print_hex(bytes: &[u8], text: &mut [u8])
+    requires { length text.old ≡ 2 * length bytes.now }
+    ensures { text.new ≡ encode_lower bytes.now }
+{
+    for at in 0..bytes.len() {
+        text[2 * at] = text_of_digit(bytes[at] / 16);
+        text[2 * at + 1] = text_of_digit(bytes[at] % 16);
+    }
+}
