@@ -1,4 +1,4 @@
-ghost use Rattle.std.specs.Prelude.{◌≡◌, ◌≤◌, [], IfOk, IfSome};
+ghost use Rattle.std.specs.Prelude.{◌≡◌, ◌≤◌, [], ◌∷◌, IfOk, IfSome, MatchOption};
 ghost use Rattle.tap_name.specs.Name.{IsName, name_of_word};
 ghost use Rattle.tap_scenario.specs.Step.{one_name, only};
 ghost use Rattle.tap_host_line.specs.Line.{IsLine, IsStart, ack_of_words, cast_of_words, find_of_words, level_of_word, line_of_text, line_of_words, members_of_words, packet_of_words, start_of_words, seq_of_word, u32_of_word};
@@ -7,6 +7,7 @@ use crate::hexadecimal::bytes_of_hex;
 use crate::line::{Line, Start};
 use crate::memory::NoMemory;
 use crate::verb::Verb;
+use memchr::memchr;
 use std::alloc::Global;
 use tap_name::{List, Name, Settings, read_name};
 use tap_scenario::{Word, Words, read_number};
@@ -122,6 +123,19 @@ fn one_name(settings: &Settings, mut words: Words<'_>) -> Option<Name>
     name_of(settings, name)
 }
 
+// The first word of these, and those after it. It is mostly a name, so that its end is looked for in many bytes at once.
+fn first_word<'a>(words: Words<'a>) -> Option<(&'a [u8], Words<'a>)>
+    ensures { MatchOption result (words.entry ≡ []) (λ found. words.entry ≡ found.0.now ∷ found.1) }
+{
+    let text = words.text()?;
+    if let Some(at) = memchr(b' ', text) {
+        return Some((&text[..at], Words::of(&text[at + 1..])));
+    }
+    let mut words = Words::of(text);
+    let word = words.next()?;
+    Some((word, words))
+}
+
 // The name that a word spells.
 fn name_of(settings: &Settings, word: &[u8]) -> Option<Name>
     ensures value { result ≡ name_of_word settings.now word.now }
@@ -157,12 +171,15 @@ fn seq_of(word: &[u8]) -> Option<u32>
 fn read_packet(
     alloc: Global,
     settings: &Settings,
-    mut words: Words<'_>,
+    words: Words<'_>,
 ) -> Result<Option<Line>, NoMemory>
     ensures value { IfOk result (λ line. line ≡ packet_of_words settings.now words.entry) }
     ensures valid { IfOk result (λ line. IfSome line (IsLine settings.now)) }
 {
-    let (Some(from), Some(seq)) = (words.next(), words.next()) else {
+    let Some((from, mut words)) = first_word(words) else {
+        return Ok(None);
+    };
+    let Some(seq) = words.next() else {
         return Ok(None);
     };
     let (Some(from), Some(seq)) = (name_of(settings, from), seq_of(seq)) else {
@@ -184,11 +201,11 @@ fn read_packet(
 
 // The acknowledgement that the words are.
 #[inline(never)]
-fn read_ack(settings: &Settings, mut words: Words<'_>) -> Option<Line>
+fn read_ack(settings: &Settings, words: Words<'_>) -> Option<Line>
     ensures value { result ≡ ack_of_words settings.now words.entry }
     ensures valid { IfSome result (IsLine settings.now) }
 {
-    let from = words.next()?;
+    let (from, mut words) = first_word(words)?;
     let seq = words.next()?;
     if words.next().is_some() {
         return None;
