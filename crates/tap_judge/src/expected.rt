@@ -60,9 +60,14 @@ impl<'a> Expected<'a> {
         }
     }
 
+    // How many bytes are left that weren't taken.
+    pub(crate) fn left(&self) -> usize {
+        self.bytes.len() - self.taken
+    }
+
     // Whether more bytes are expected, and none was written that isn't.
     pub(crate) fn goes_on(&self) -> bool {
-        self.faults == 0 && self.taken < self.bytes.len()
+        self.faults == 0 && self.left() > 0
     }
 
     // Whether so many bytes were taken, and none was written that isn't expected.

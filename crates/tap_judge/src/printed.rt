@@ -18,19 +18,26 @@ use tap_report::{Mode, Reporter};
 use tap_scenario::Scenario;
 use tap_shape::read_opening;
 
+// So many bytes of the text are counted for each record of turns that are put together.
+const BYTES_FOR_EACH: usize = 4_096;
+
+// So many records are put together at most, but for those of the last turn.
+const MOST_TOGETHER: usize = 256;
+
 // How many records the log has of which the bytes are the text, if the run of the scenario that they tell prints them, however far it has come
-// then. That log is lawful. The run is left at the first turn that prints something else.
-pub(crate) fn records_as_printed(alloc: Global, bytes: &[u8]) -> Result<Option<u32>, NoMemory>
+// then. That log is lawful. The run is left once it has printed something else, or all of the bytes. If memory is refused in a turn, the answer is
+// that, even if the bytes end before the records of that turn.
+pub(crate) fn record_count_as_printed(alloc: Global, bytes: &[u8]) -> Result<Option<u32>, NoMemory>
     ensures { IfOk result (λ found. IfSome found (IsLawfulText bytes.now)) }
 {
-    match told_scenario(alloc, bytes)? {
-        Some(scenario) => records_of_run(alloc, &scenario, bytes),
+    match scenario_of_opening(alloc, bytes)? {
+        Some(scenario) => record_count_of_run(alloc, &scenario, bytes),
         None => Ok(None),
     }
 }
 
 // The scenario that a text tells by the lines that open its log and begin its steps, if these are the text of a log.
-fn told_scenario(alloc: Global, bytes: &[u8]) -> Result<Option<Scenario>, NoMemory>
+fn scenario_of_opening(alloc: Global, bytes: &[u8]) -> Result<Option<Scenario>, NoMemory>
     ensures { IfOk result (λ found. IfSome found IsScript) }
 {
     match read_opening(alloc, bytes)? {
@@ -39,17 +46,21 @@ fn told_scenario(alloc: Global, bytes: &[u8]) -> Result<Option<Scenario>, NoMemo
     }
 }
 
-// The same of the run of this scenario. The player is dropped in one place: what is shown of that is long.
-fn records_of_run(alloc: Global, scenario: &Scenario, bytes: &[u8]) -> Result<Option<u32>, NoMemory>
+// The same count for the run of this scenario. The player is dropped in one place: what is shown of that is long.
+fn record_count_of_run(
+    alloc: Global,
+    scenario: &Scenario,
+    bytes: &[u8],
+) -> Result<Option<u32>, NoMemory>
     requires valid { IsScript scenario.now }
     ensures { IfOk result (λ found. IfSome found (IsLawfulText bytes.now)) }
 {
     let mut player = Player::new(alloc, scenario)?;
-    records_printed(&mut player, scenario, bytes)
+    record_count_of_player(&mut player, scenario, bytes)
 }
 
-// The same of a player that has taken no turn.
-fn records_printed(
+// The same count for a player that has taken no turn.
+fn record_count_of_player(
     player: &mut Player,
     scenario: &Scenario,
     bytes: &[u8],
@@ -71,7 +82,14 @@ fn records_printed(
     Ok(None)
 }
 
-// Takes one turn after the other while more bytes are expected, and puts the records of each.
+// How many records, at least, of turns are put together while so many bytes are left: near the end of the text, those of one turn alone. No turn is
+// taken whose records begin after the end of the text, unless the records before it have more bytes, one with another, than are counted for each.
+// Such a text is read line by line.
+fn records_together(left: usize) -> usize {
+    (left / BYTES_FOR_EACH).min(MOST_TOGETHER)
+}
+
+// Takes turns while more bytes are expected, and puts their records, those of some turns together.
 fn play_on(
     player: &mut Player,
     scenario: &Scenario,
@@ -89,7 +107,8 @@ fn play_on(
         → Reports mode (whole_log player.new.world) first (expected_state text.new) reporter.new }
 {
     while text.goes_on() {
-        match turns_and_put(player, scenario, 1, reporter, text) {
+        let enough = records_together(text.left());
+        match turns_and_put(player, scenario, enough, reporter, text) {
             Turned::More => {}
             Turned::Over(End::NoMemory) => return Err(NoMemory),
             Turned::Over(_) => return Ok(()),

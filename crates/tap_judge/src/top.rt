@@ -7,7 +7,7 @@ ghost use Rattle.tap_judge.specs.Status.{line_of_status};
 
 use crate::judging::judge;
 use crate::line::write_line;
-use crate::printed::records_as_printed;
+use crate::printed::record_count_as_printed;
 use crate::reading::{log_of_bytes, source_bytes};
 use crate::status::{JudgeStatus, Judged};
 use crate::verdict::Verdict;
@@ -89,7 +89,7 @@ fn judge_bytes(alloc: Global, bytes: Vec<u8>) -> JudgeStatus
     requires few { length bytes.items ≤ most_bytes }
     ensures { IsAnswerOn bytes.items result }
 {
-    match records_as_printed(alloc, bytes.as_slice()) {
+    match record_count_as_printed(alloc, bytes.as_slice()) {
         Ok(Some(records)) => JudgeStatus::Lawful(records),
         Ok(None) => judge_each_line(alloc, bytes),
         Err(NoMemory) => JudgeStatus::NoMemory,

@@ -10,8 +10,8 @@ use Rattle.tap_judge.specs.Expected.{expected_state}
 use Rattle.tap_judge.proofs.printed.play_on.Given as goal
 
 -- the run goes on, and the records of all turns were put
-abbrev pub invariant-loop-player : goal.invariant-loop-player
-invariant-loop-player l = record {
+abbrev pub invariant-loop-text : goal.invariant-loop-text
+invariant-loop-text l = record {
   played : HasPlayed l.scenario l.player;
   begun : l.player.over ≡ None;
   put : l.reporter.records ≡ length (whole_log l.player.world);
@@ -21,5 +21,5 @@ invariant-loop-player l = record {
       → Reports mode (whole_log l.player.world) first (expected_state l.text) l.reporter;
 }
 
-abbrev pub decreases-loop-player : goal.decreases-loop-player
-decreases-loop-player l = left_in l.scenario (whole_log l.player.world)
+abbrev pub decreases-loop-text : goal.decreases-loop-text
+decreases-loop-text l = left_in l.scenario (whole_log l.player.world)

@@ -10,7 +10,7 @@ use Rattle.tap_report.proofs.ReportsLemmas.{Reports-new}
 use Rattle.tap_judge.specs.Expected.{ExpectedValue, expected_state, expects}
 use Rattle.tap_judge.proofs.Expecting.{all_taken}
 use Rattle.tap_judge.proofs.PrintedTexts.{printed_lawful}
-use Rattle.tap_judge.proofs.printed.records_printed.Goals as goal
+use Rattle.tap_judge.proofs.printed.record_count_of_player.Goals as goal
 
 pub put_from-requires-clause-printable : goal.put_from-requires-clause-printable
 put_from-requires-clause-printable c =
