@@ -5,24 +5,12 @@ ghost use Rattle.tap_log.specs.Kinds.{sent_number};
 ghost use Rattle.tap_ledger.specs.Added.{is_plain, most_ledger_frames};
 ghost use Rattle.tap_test_runs.specs.Single.{can_add_one, can_send, can_take_record, is_next, number_is_below};
 
+use crate::names::{name_of, settings_of, step_of};
 use std::alloc::Global;
 use std::process::Abort;
-use std::test::Fail;
 use tap_ledger::Ledger;
 use tap_log::{Bytes, NumberKind, Pair, Record, Refusal, number_in};
-use tap_name::{List, Name, Settings, read_name};
-use tap_scenario::{Step, read_step};
-
-pub(crate) fn name_of(settings: &Settings, text: &str) -> Result<Name, Fail> {
-    match read_name(settings, text.as_bytes()) {
-        Ok(name) => Ok(name),
-        Err(_) => Err("a name")?,
-    }
-}
-
-pub(crate) fn step_of(settings: &Settings, text: &str) -> Result<Step, Fail> {
-    Ok(read_step(settings, false, text.as_bytes()).ok_or("a step")?)
-}
+use tap_name::{List, Name};
 
 // Whether the record may stand after the beginning of a log that isn't carried.
 #[tactic(auto, unfolding(tap_ledger::specs::Added::is_plain))]
@@ -88,169 +76,181 @@ fn can_add(ledger: &Ledger, item: &Record) -> bool
 }
 
 // Adds a record, which may be added.
-pub(crate) fn add(rt: &impl Abort, ledger: &mut Ledger, item: Record) -> Result<(), Fail> {
-    ledger.reserve(1)?;
+pub(crate) fn add(rt: &impl Abort, ledger: &mut Ledger, item: Record) {
+    ledger.reserve(1).expect(rt, "memory");
     assert!(rt; can_add(ledger, &item));
     ledger.push_reserved(item);
-    Ok(())
 }
 
 // Adds the record of a step.
-pub(crate) fn add_step(rt: &impl Abort, ledger: &mut Ledger, text: &str) -> Result<(), Fail> {
-    let step = step_of(&ledger.settings(), text)?;
-    add(rt, ledger, Record::Step { index: 1, step })
+pub(crate) fn add_step(rt: &impl Abort, ledger: &mut Ledger, text: &str) {
+    let step = step_of(rt, &ledger.settings(), text);
+    add(rt, ledger, Record::Step { index: 1, step });
 }
 
 // Adds that a frame is sent: that a node is core, from 00 to 10.
-pub(crate) fn add_sent(
-    alloc: Global,
-    rt: &impl Abort,
-    ledger: &mut Ledger,
-    number: u32,
-) -> Result<(), Fail> {
-    let bytes = Bytes::copy_of(alloc, &[1, 6, 0, 0, 0, 0, 1, 0])?;
-    add(rt, ledger, Record::Sent { number, bytes })
+pub(crate) fn add_sent(rt: &impl Abort, alloc: Global, ledger: &mut Ledger, number: u32) {
+    let bytes = Bytes::copy_of(alloc, &[1, 6, 0, 0, 0, 0, 1, 0]).expect(rt, "memory");
+    add(rt, ledger, Record::Sent { number, bytes });
 }
 
 // A ledger of two members, 00 and 01.
-pub(crate) fn begun(alloc: Global) -> Result<Ledger, Fail> {
-    let settings = Settings::new(2, 2, 1).ok_or("settings")?;
+pub(crate) fn begun(rt: &impl Abort, alloc: Global) -> Ledger {
+    let settings = settings_of(rt, 2, 2, 1);
     let mut members = List::new(alloc);
-    members.push(name_of(&settings, "00")?)?;
-    members.push(name_of(&settings, "01")?)?;
-    Ok(Ledger::new(alloc, &settings, 100, &members)?)
+    members
+        .push(name_of(rt, &settings, "00"))
+        .expect(rt, "memory");
+    members
+        .push(name_of(rt, &settings, "01"))
+        .expect(rt, "memory");
+    Ledger::new(alloc, &settings, 100, &members).expect(rt, "memory")
+}
+
+// The name of a text, of the settings of a ledger.
+pub(crate) fn name_in(rt: &impl Abort, ledger: &Ledger, text: &str) -> Name {
+    name_of(rt, &ledger.settings(), text)
 }
 
 // Two frames are sent, and the first is taken: the other one is found by its place, and the place by its number.
-fn send_two_take_one(alloc: Global, rt: &impl Abort, ledger: &mut Ledger) -> Result<(), Fail> {
-    add_step(rt, ledger, "join 10 via 00")?;
-    add_sent(alloc, rt, ledger, 0)?;
-    add_sent(alloc, rt, ledger, 1)?;
-    add(rt, ledger, Record::Taken { number: 0 })
+fn send_two_take_one(rt: &impl Abort, alloc: Global, ledger: &mut Ledger) {
+    add_step(rt, ledger, "join 10 via 00");
+    add_sent(rt, alloc, ledger, 0);
+    add_sent(rt, alloc, ledger, 1);
+    add(rt, ledger, Record::Taken { number: 0 });
 }
 
 // What is said of the frame that is left.
 fn see_one_frame(rt: &impl Abort, ledger: &Ledger) {
-    assert_eq!(rt; ledger.sent(), 2);
-    assert_eq!(rt; ledger.outstanding(), 1);
+    assert!(rt; ledger.sent() == 2);
+    assert!(rt; ledger.outstanding() == 1);
     assert!(rt; !ledger.is_rest());
-    assert_eq!(rt; ledger.place_of(1), Some(0));
-    assert_eq!(rt; ledger.newest(), Some(0));
+    assert!(rt; ledger.place_of(1) == Some(0));
+    assert!(rt; ledger.newest() == Some(0));
 }
 
 // A cut beyond its bytes is refused.
-fn see_refusal(alloc: Global, rt: &impl Abort, ledger: &Ledger) -> Result<(), Fail> {
-    let bytes = ledger.bytes_at(0).ok_or("a frame")?;
-    assert_eq!(rt; bytes.len(), 8);
-    let step = step_of(&ledger.settings(), "cut 0 9")?;
-    let refusal = ledger.refusal(alloc, &step)?;
-    assert_eq!(rt; refusal, Some(Refusal::NoSuchByte(8)));
-    Ok(())
-}
-
-fn take_frames(alloc: Global, rt: &impl Abort, ledger: &mut Ledger) -> Result<(), Fail> {
-    send_two_take_one(alloc, rt, ledger)?;
-    see_one_frame(rt, ledger);
-    see_refusal(alloc, rt, ledger)
+fn see_refusal(rt: &impl Abort, alloc: Global, ledger: &Ledger) {
+    let bytes = ledger.bytes_at(0).expect(rt, "a frame");
+    assert!(rt; bytes.len() == 8);
+    let step = step_of(rt, &ledger.settings(), "cut 0 9");
+    let refusal = ledger.refusal(alloc, &step).expect(rt, "memory");
+    assert!(rt; refusal == Some(Refusal::NoSuchByte(8)));
 }
 
 #[test]
-fn frames_are_found_by_their_places_until_they_are_taken(rt: HostRuntime) -> Result<(), Fail> {
-    let mut ledger = begun(rt.alloc())?;
-    take_frames(rt.alloc(), &rt, &mut ledger)
+fn frames_are_found_by_their_places_until_they_are_taken(rt: HostRuntime) {
+    let mut ledger = begun(&rt, rt.alloc());
+    send_two_take_one(&rt, rt.alloc(), &mut ledger);
+    see_one_frame(&rt, &ledger);
+    see_refusal(&rt, rt.alloc(), &ledger);
 }
 
-// A node joins: it is present, and then core.
-fn join(alloc: Global, rt: &impl Abort, ledger: &mut Ledger, name: Name) -> Result<(), Fail> {
-    add_step(rt, ledger, "join 10 via 00")?;
-    add_sent(alloc, rt, ledger, 0)?;
+// A node begins to join: it is present, and not core yet.
+fn start_join(rt: &impl Abort, alloc: Global, ledger: &mut Ledger, name: Name) {
+    add_step(rt, ledger, "join 10 via 00");
+    add_sent(rt, alloc, ledger, 0);
     assert!(rt; ledger.is_present(&name));
     assert!(rt; !ledger.is_core(&name));
-    add(rt, ledger, Record::Taken { number: 0 })?;
-    add(rt, ledger, Record::Core { name })?;
+}
+
+// Its join ends: it is core.
+fn end_join(rt: &impl Abort, ledger: &mut Ledger, name: Name) {
+    add(rt, ledger, Record::Taken { number: 0 });
+    add(rt, ledger, Record::Core { name });
     assert!(rt; ledger.is_core(&name));
-    Ok(())
 }
 
-// It leaves, and is gone.
-fn leave(alloc: Global, rt: &impl Abort, ledger: &mut Ledger, name: Name) -> Result<(), Fail> {
-    add_step(rt, ledger, "leave 10")?;
-    add_sent(alloc, rt, ledger, 1)?;
-    assert_eq!(rt; ledger.departing(), Some(name));
-    assert_eq!(rt; ledger.core_count(), 3);
-    add(rt, ledger, Record::Gone { name })?;
-    assert_eq!(rt; ledger.core().len(), 2);
+// It leaves: it departs.
+fn start_leave(rt: &impl Abort, alloc: Global, ledger: &mut Ledger, name: Name) {
+    add_step(rt, ledger, "leave 10");
+    add_sent(rt, alloc, ledger, 1);
+    assert!(rt; ledger.departing() == Some(name));
+    assert!(rt; ledger.core_count() == 3);
+}
+
+// It is gone.
+fn end_leave(rt: &impl Abort, ledger: &mut Ledger, name: Name) {
+    add(rt, ledger, Record::Gone { name });
+    assert!(rt; ledger.core().len() == 2);
     assert!(rt; ledger.was_present(&name));
-    assert_eq!(rt; ledger.name_count(), 3);
+    assert!(rt; ledger.name_count() == 3);
     assert!(rt; !ledger.is_abandoned(&name));
-    Ok(())
-}
-
-fn join_and_leave(alloc: Global, rt: &impl Abort, ledger: &mut Ledger) -> Result<(), Fail> {
-    let name = name_of(&ledger.settings(), "10")?;
-    join(alloc, rt, ledger, name)?;
-    leave(alloc, rt, ledger, name)
 }
 
 #[test]
-fn a_joined_node_is_core_and_a_leaver_departs(rt: HostRuntime) -> Result<(), Fail> {
-    let mut ledger = begun(rt.alloc())?;
-    join_and_leave(rt.alloc(), &rt, &mut ledger)
+fn a_joined_node_is_core_and_a_leaver_departs(rt: HostRuntime) {
+    let mut ledger = begun(&rt, rt.alloc());
+    let name = name_in(&rt, &ledger, "10");
+    start_join(&rt, rt.alloc(), &mut ledger, name);
+    end_join(&rt, &mut ledger, name);
+    start_leave(&rt, rt.alloc(), &mut ledger, name);
+    end_leave(&rt, &mut ledger, name);
 }
 
 // A pair is published.
-fn publish(rt: &impl Abort, ledger: &mut Ledger) -> Result<(), Fail> {
-    let object = name_of(&ledger.settings(), "11")?;
-    let server = name_of(&ledger.settings(), "01")?;
-    add_step(rt, ledger, "publish 11 at 01")?;
-    add(rt, ledger, Record::Published { object, server })?;
+fn publish(rt: &impl Abort, ledger: &mut Ledger) {
+    let object = name_in(rt, ledger, "11");
+    let server = name_in(rt, ledger, "01");
+    add_step(rt, ledger, "publish 11 at 01");
+    add(rt, ledger, Record::Published { object, server });
     assert!(rt; ledger.is_published(&Pair { object, server }));
-    assert_eq!(rt; ledger.log().len(), 3);
-    assert_eq!(rt; ledger.tickets(), 0);
-    assert_eq!(rt; ledger.casts(), 0);
-    Ok(())
 }
 
 #[test]
-fn a_published_pair_is_kept(rt: HostRuntime) -> Result<(), Fail> {
-    let mut ledger = begun(rt.alloc())?;
-    publish(&rt, &mut ledger)
+fn a_published_pair_is_kept(rt: HostRuntime) {
+    let mut ledger = begun(&rt, rt.alloc());
+    publish(&rt, &mut ledger);
+    assert!(rt; ledger.log().len() == 3);
+    assert!(rt; ledger.tickets() == 0);
+    assert!(rt; ledger.casts() == 0);
 }
 
-// Remarks stand in the whole log, where they were added. The last record, the frames and the room are as they were.
+// A remark is added where there is room for two more, and takes none of it.
 #[tactic(auto, unfolding(tap_log::specs::Reduced::is_added))]
-fn remark(alloc: Global, rt: &impl Abort, ledger: &mut Ledger) -> Result<(), Fail> {
+fn remark(rt: &impl Abort, ledger: &mut Ledger) {
     let packet = Record::Packet {
         number: 0,
         frame: 0,
         ack: false,
     };
-    add_step(rt, ledger, "join 10 via 00")?;
-    ledger.reserve(2)?;
-    assert_eq!(rt; ledger.remark(packet), Ok(()));
-    assert_eq!(rt; ledger.spare(), 2);
-    add_sent(alloc, rt, ledger, 0)?;
-    ledger.reserve(1)?;
+    ledger.reserve(2).expect(rt, "memory");
+    assert!(rt; ledger.remark(packet) == Ok(()));
+    assert!(rt; ledger.spare() == 2);
+}
+
+// A remark is added where there is room for one more, and takes it.
+#[tactic(auto, unfolding(tap_log::specs::Reduced::is_added))]
+fn remark_reserved(rt: &impl Abort, ledger: &mut Ledger) {
+    ledger.reserve(1).expect(rt, "memory");
     ledger.remark_reserved(Record::Ticked);
-    assert_eq!(rt; ledger.spare(), 0);
-    see_remarks(rt, ledger)
+    assert!(rt; ledger.spare() == 0);
 }
 
-// The join was accepted by the frame, though a remark stands before it; its record is the fourth one.
-fn see_remarks(rt: &impl Abort, ledger: &Ledger) -> Result<(), Fail> {
-    let name = name_of(&ledger.settings(), "10")?;
+// The join was accepted by the frame, though a remark stands before it.
+fn see_remarks(rt: &impl Abort, ledger: &Ledger) {
+    let name = name_in(rt, ledger, "10");
     assert!(rt; ledger.is_present(&name));
-    assert_eq!(rt; ledger.log().len(), 5);
-    assert_eq!(rt; ledger.place_of(0), Some(0));
-    assert_eq!(rt; ledger.place_of(1), None);
-    let flight = ledger.flight_at(0).ok_or("a frame")?;
-    assert_eq!(rt; flight.record_place, 3);
-    assert_eq!(rt; flight.bytes.len(), 8);
-    Ok(())
+    assert!(rt; ledger.log().len() == 5);
+    assert!(rt; ledger.place_of(0) == Some(0));
+    assert!(rt; ledger.place_of(1) == None);
 }
 
+// The frame's record is the fourth one.
+fn see_flight(rt: &impl Abort, ledger: &Ledger) {
+    let flight = ledger.flight_at(0).expect(rt, "a frame");
+    assert!(rt; flight.record_place == 3);
+    assert!(rt; flight.bytes.len() == 8);
+}
+
+// Remarks stand in the whole log, where they were added. The last record, the frames and the room are as they were.
 #[test]
-fn remarks_stand_beside_the_plain_records(rt: HostRuntime) -> Result<(), Fail> {
-    let mut ledger = begun(rt.alloc())?;
-    remark(rt.alloc(), &rt, &mut ledger)
+fn remarks_stand_beside_the_plain_records(rt: HostRuntime) {
+    let mut ledger = begun(&rt, rt.alloc());
+    add_step(&rt, &mut ledger, "join 10 via 00");
+    remark(&rt, &mut ledger);
+    add_sent(&rt, rt.alloc(), &mut ledger, 0);
+    remark_reserved(&rt, &mut ledger);
+    see_remarks(&rt, &ledger);
+    see_flight(&rt, &ledger);
 }

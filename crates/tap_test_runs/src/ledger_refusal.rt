@@ -1,8 +1,8 @@
 // Why steps are refused: of several causes the first one counts.
-use crate::ledger::{add, add_sent, add_step, begun, name_of, step_of};
+use crate::ledger::{add, add_sent, add_step, begun, name_in};
+use crate::names::{check_so, settings_of, step_of};
 use std::alloc::Global;
 use std::process::Abort;
-use std::test::Fail;
 use tap_ledger::Ledger;
 use tap_log::{Record, Refusal};
 use tap_name::{List, Name, Settings};
@@ -50,123 +50,101 @@ const FULL: [Case; 2] = [
 ];
 
 // Compares the refusal of a step with what it is to be.
-fn check(
-    alloc: Global,
-    rt: &impl Abort,
-    ledger: &Ledger,
-    text: &str,
-    want: Option<Refusal>,
-) -> Result<(), Fail> {
-    let step = step_of(&ledger.settings(), text)?;
-    assert_eq!(rt; ledger.refusal(alloc, &step)?, want, "{text}");
-    Ok(())
+fn check(rt: &impl Abort, alloc: Global, ledger: &Ledger, text: &str, want: Option<Refusal>) {
+    let step = step_of(rt, &ledger.settings(), text);
+    let refusal = ledger.refusal(alloc, &step).expect(rt, "memory");
+    check_so(rt, refusal == want, text);
 }
 
-fn check_all(alloc: Global, rt: &impl Abort, ledger: &Ledger, cases: &[Case]) -> Result<(), Fail> {
+fn check_all(rt: &impl Abort, alloc: Global, ledger: &Ledger, cases: &[Case]) {
     for (text, want) in cases {
-        check(alloc, rt, ledger, text, *want)?;
+        check(rt, alloc, ledger, text, *want);
     }
-    Ok(())
 }
 
-fn see_first_causes(alloc: Global, rt: &impl Abort, ledger: &mut Ledger) -> Result<(), Fail> {
-    check_all(alloc, rt, ledger, &AT_THE_BEGINNING)?;
-    add_step(rt, ledger, "join 10 via 00")?;
-    add_sent(alloc, rt, ledger, 0)?;
-    check_all(alloc, rt, ledger, &WHILE_ONE_JOINS)
+fn see_beginning(rt: &impl Abort, alloc: Global, ledger: &Ledger) {
+    check_all(rt, alloc, ledger, &AT_THE_BEGINNING);
+}
+
+fn see_joining(rt: &impl Abort, alloc: Global, ledger: &Ledger) {
+    check_all(rt, alloc, ledger, &WHILE_ONE_JOINS);
+}
+
+fn see_full(rt: &impl Abort, alloc: Global, ledger: &Ledger) {
+    check_all(rt, alloc, ledger, &FULL);
 }
 
 #[test]
-fn the_first_of_two_causes_counts(rt: HostRuntime) -> Result<(), Fail> {
-    let mut ledger = begun(rt.alloc())?;
-    see_first_causes(rt.alloc(), &rt, &mut ledger)
+fn the_first_of_two_causes_counts(rt: HostRuntime) {
+    let mut ledger = begun(&rt, rt.alloc());
+    see_beginning(&rt, rt.alloc(), &ledger);
+    add_step(&rt, &mut ledger, "join 10 via 00");
+    add_sent(&rt, rt.alloc(), &mut ledger, 0);
+    see_joining(&rt, rt.alloc(), &ledger);
 }
 
 // 10 is abandoned, and core after that.
-fn see_abandoned(alloc: Global, rt: &impl Abort, ledger: &mut Ledger) -> Result<(), Fail> {
-    let name = name_of(&ledger.settings(), "10")?;
-    add_step(rt, ledger, "join 10 via 00")?;
-    add(rt, ledger, Record::Abandoned { name })?;
-    check(
-        alloc,
-        rt,
-        ledger,
-        "abandon 10",
-        Some(Refusal::AlreadyAbandoned),
-    )?;
-    add(rt, ledger, Record::Core { name })?;
-    check(alloc, rt, ledger, "abandon 10", Some(Refusal::NotJoining))
+#[test]
+fn a_core_node_that_was_abandoned_is_not_joining(rt: HostRuntime) {
+    let mut ledger = begun(&rt, rt.alloc());
+    let name = name_in(&rt, &ledger, "10");
+    let already = Some(Refusal::AlreadyAbandoned);
+    let not_joining = Some(Refusal::NotJoining);
+    add_step(&rt, &mut ledger, "join 10 via 00");
+    add(&rt, &mut ledger, Record::Abandoned { name });
+    check(&rt, rt.alloc(), &ledger, "abandon 10", already);
+    add(&rt, &mut ledger, Record::Core { name });
+    check(&rt, rt.alloc(), &ledger, "abandon 10", not_joining);
+}
+
+// A step is refused since this node leaves.
+fn check_departing(rt: &impl Abort, alloc: Global, ledger: &Ledger, text: &str, leaver: Name) {
+    check(rt, alloc, ledger, text, Some(Refusal::Departing(leaver)));
+}
+
+// What is refused while this node leaves, and what is not.
+fn see_departing(rt: &impl Abort, alloc: Global, ledger: &Ledger, leaver: Name) {
+    check_departing(rt, alloc, ledger, "leave 00", leaver);
+    check_departing(rt, alloc, ledger, "join 01 via 00", leaver);
+    check_departing(rt, alloc, ledger, "cast a to 1 from 00", leaver);
+    check(rt, alloc, ledger, "walk 11 from 00", None);
 }
 
 #[test]
-fn a_core_node_that_was_abandoned_is_not_joining(rt: HostRuntime) -> Result<(), Fail> {
-    let mut ledger = begun(rt.alloc())?;
-    see_abandoned(rt.alloc(), &rt, &mut ledger)
+fn one_node_leaves_at_a_time(rt: HostRuntime) {
+    let mut ledger = begun(&rt, rt.alloc());
+    let leaver = name_in(&rt, &ledger, "01");
+    add_step(&rt, &mut ledger, "leave 01");
+    add_sent(&rt, rt.alloc(), &mut ledger, 0);
+    see_departing(&rt, rt.alloc(), &ledger, leaver);
 }
 
-fn start_leaving(alloc: Global, rt: &impl Abort, ledger: &mut Ledger) -> Result<(), Fail> {
-    add_step(rt, ledger, "leave 01")?;
-    add_sent(alloc, rt, ledger, 0)
+// Adds the name of these digits.
+fn add_name(rt: &impl Abort, names: &mut List<Name>, settings: &Settings, digits: [u8; 3]) {
+    let name = Name::from_digits(settings, &digits).expect(rt, "a name");
+    names.push(name).expect(rt, "memory");
 }
 
-// What is refused while this node leaves.
-fn see_departing(
-    alloc: Global,
-    rt: &impl Abort,
-    ledger: &Ledger,
-    leaver: Name,
-) -> Result<(), Fail> {
-    check(
-        alloc,
-        rt,
-        ledger,
-        "leave 00",
-        Some(Refusal::Departing(leaver)),
-    )?;
-    check(
-        alloc,
-        rt,
-        ledger,
-        "join 01 via 00",
-        Some(Refusal::Departing(leaver)),
-    )?;
-    check(
-        alloc,
-        rt,
-        ledger,
-        "cast a to 1 from 00",
-        Some(Refusal::Departing(leaver)),
-    )?;
-    check(alloc, rt, ledger, "walk 11 from 00", None)
-}
-
-#[test]
-fn one_node_leaves_at_a_time(rt: HostRuntime) -> Result<(), Fail> {
-    let mut ledger = begun(rt.alloc())?;
-    let leaver = name_of(&ledger.settings(), "01")?;
-    start_leaving(rt.alloc(), &rt, &mut ledger)?;
-    see_departing(rt.alloc(), &rt, &ledger, leaver)
+// Adds the sixteen names that begin with 0 and this digit.
+fn add_sixteen(rt: &impl Abort, names: &mut List<Name>, settings: &Settings, digit: u8) {
+    for last in 0..16 {
+        add_name(rt, names, settings, [0, digit, last]);
+    }
 }
 
 // The names 000 to 0ff: 256 of them.
-fn many_names(alloc: Global, settings: &Settings) -> Result<List<Name>, Fail> {
+fn many_names(rt: &impl Abort, alloc: Global, settings: &Settings) -> List<Name> {
     let mut names = List::new(alloc);
-    for first in 0..16 {
-        for second in 0..16 {
-            match Name::from_digits(settings, &[0, first, second]) {
-                Ok(name) => names.push(name)?,
-                Err(_) => Err("a name")?,
-            }
-        }
+    for digit in 0..16 {
+        add_sixteen(rt, &mut names, settings, digit);
     }
-    Ok(names)
+    names
 }
 
 #[test]
-fn a_name_after_256_is_one_too_many(rt: HostRuntime) -> Result<(), Fail> {
-    let alloc = rt.alloc();
-    let settings = Settings::new(16, 3, 1).ok_or("settings")?;
-    let members = many_names(alloc, &settings)?;
-    let ledger = Ledger::new(alloc, &settings, 1, &members)?;
-    check_all(alloc, &rt, &ledger, &FULL)
+fn a_name_after_256_is_one_too_many(rt: HostRuntime) {
+    let settings = settings_of(&rt, 16, 3, 1);
+    let members = many_names(&rt, rt.alloc(), &settings);
+    let ledger = Ledger::new(rt.alloc(), &settings, 1, &members).expect(&rt, "memory");
+    see_full(&rt, rt.alloc(), &ledger);
 }

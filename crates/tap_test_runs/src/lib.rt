@@ -12,6 +12,8 @@ mod ledger;
 #[cfg(test)]
 mod ledger_refusal;
 #[cfg(test)]
+mod names;
+#[cfg(test)]
 mod node_common;
 #[cfg(test)]
 mod node_common_strange;

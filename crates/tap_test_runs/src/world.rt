@@ -1,7 +1,6 @@
 // A world of one member, run by hand.
-ghost use Rattle.std.specs.Prelude.{◌≡◌, ◌≤◌, ℕ, IsTrue, Some, true, false, not, length, IfOk, option_and_then};
+ghost use Rattle.std.specs.Prelude.{◌≡◌, ◌≤◌, ℕ, IsTrue, Some, true, false, not, length, option_and_then};
 ghost use Rattle.std.specs.List.{list_any};
-ghost use Rattle.tap_name.specs.Name.{IsName};
 ghost use Rattle.tap_scenario.specs.Step.{IsStep};
 ghost use Rattle.tap_log.specs.MoreRecords.{at_most_one};
 ghost use Rattle.tap_log.specs.Log.{begun_steps, last_of};
@@ -9,55 +8,38 @@ ghost use Rattle.tap_log.specs.Reduced.{is_added};
 ghost use Rattle.tap_engine.specs.Kinds.{begun_index, begun_indices, damages, finishes_run, is_finished, last_index, observes};
 ghost use Rattle.tap_engine.specs.Outcome.{IsNextIndex, MayGoOn};
 
+use crate::names::{name_of, settings_of, step_of};
 use std::alloc::Global;
 use std::process::Abort;
-use std::test::Fail;
 use tap_history::is_start;
 use tap_log::{Record, Refusal};
-use tap_name::{List, Name, Settings, read_name};
-use tap_scenario::{Step, read_step};
+use tap_name::{List, Name};
+use tap_scenario::Step;
 use tap_surrogate::Tables;
 use tap_world::{Stop, World};
 
 // More frames than a run of a test sends.
 const MOST_FRAMES: usize = 100;
 
-// The name of a text.
-fn name_of(settings: &Settings, text: &str) -> Result<Name, Fail>
-    ensures { IfOk result (IsName settings.now) }
-{
-    match read_name(settings, text.as_bytes()) {
-        Ok(name) => Ok(name),
-        Err(_) => Err("a name")?,
-    }
-}
-
 // The world of one member, 00, in which so many frames may be sent.
-fn one_member(alloc: Global, frames: u32) -> Result<World, Fail>
+fn one_member(rt: &impl Abort, alloc: Global, frames: u32) -> World
     requires from { 1 ≤ frames }
     requires to { frames ≤ 100 }
 {
-    let settings = Settings::new(2, 2, 1).ok_or("settings")?;
-    // They are within their limits.
-    let _ = settings.base();
+    let settings = settings_of(rt, 2, 2, 1);
+    let member = name_of(rt, &settings, "00");
     let mut members = List::new(alloc);
-    members.push(name_of(&settings, "00")?)?;
-    match World::new(alloc, &settings, frames, &members) {
-        Ok(world) => Ok(world),
-        Err(_) => Err("memory")?,
-    }
+    members.push(member).expect(rt, "memory");
+    World::new(alloc, &settings, frames, &members).expect(rt, "memory")
 }
 
 // ---- what the calls ask
 
 // The step of a text, of the settings of a world.
-fn step_in(world: &World, text: &str) -> Result<Step, Fail>
-    ensures { IfOk result (IsStep world.now.beginning.settings false) }
+fn step_in(rt: &impl Abort, world: &World, text: &str) -> Step
+    ensures { IsStep world.now.beginning.settings false result }
 {
-    match read_step(&world.settings(), false, text.as_bytes()) {
-        Some(step) => Ok(step),
-        None => Err("a step")?,
-    }
+    step_of(rt, &world.settings(), text)
 }
 
 // The index of a step that begins.
@@ -204,38 +186,37 @@ fn damages(step: &Step) -> bool
 
 // ---- the calls
 
-// A step has a node start something.
-fn start(rt: &impl Abort, world: &mut World, index: u32, text: &str) -> Result<(), Fail> {
-    let step = step_in(world, text)?;
+// The world goes on, and its next step may have this index.
+fn check_next(rt: &impl Abort, world: &World, index: u32)
+    ensures goes_on { MayGoOn world.now }
+    ensures next { IsNextIndex world.now index }
+{
     assert!(rt; may_go_on(world));
     assert!(rt; is_next(world, index));
+}
+
+// A step has a node start something.
+fn start(rt: &impl Abort, world: &mut World, index: u32, text: &str) {
+    let step = step_in(rt, world, text);
+    check_next(rt, world, index);
     assert!(rt; is_start(&step));
-    assert_eq!(rt; world.start(index, &step), Ok(()));
-    Ok(())
+    world.start(index, &step).expect(rt, "a start");
 }
 
 // A step observes.
-fn observe(rt: &impl Abort, world: &mut World, index: u32, text: &str) -> Result<(), Fail> {
-    let step = step_in(world, text)?;
-    assert!(rt; may_go_on(world));
-    assert!(rt; is_next(world, index));
+fn observe(rt: &impl Abort, world: &mut World, index: u32, text: &str) {
+    let step = step_in(rt, world, text);
+    check_next(rt, world, index);
     assert!(rt; observes(&step));
-    assert_eq!(rt; world.observe(index, &step), Ok(()));
-    Ok(())
+    world.observe(index, &step).expect(rt, "an observation");
 }
 
 // A step offers a damaged copy.
-fn garble(
-    rt: &impl Abort,
-    world: &mut World,
-    index: u32,
-    text: &str,
-) -> Result<Result<(), Stop>, Fail> {
-    let step = step_in(world, text)?;
-    assert!(rt; may_go_on(world));
-    assert!(rt; is_next(world, index));
+fn garble(rt: &impl Abort, world: &mut World, index: u32, text: &str) -> Result<(), Stop> {
+    let step = step_in(rt, world, text);
+    check_next(rt, world, index);
     assert!(rt; damages(&step));
-    Ok(world.garble(index, &step))
+    world.garble(index, &step)
 }
 
 // Takes the frame that was sent first.
@@ -244,35 +225,54 @@ fn deliver(rt: &impl Abort, world: &mut World) -> Result<(), Stop> {
     world.deliver(0)
 }
 
-// Takes frames, the oldest first, until none is outstanding.
+// A step begins the taking of frames, the oldest first.
 #[tactic(auto, unfolding(tap_runs::specs::Course::is_choice))]
-fn settle(rt: &impl Abort, world: &mut World, index: u32) -> Result<(), Fail> {
-    assert!(rt; may_go_on(world));
-    assert!(rt; is_next(world, index));
-    assert_eq!(rt; world.mark(index, &Step::Settle), Ok(()));
-    for _turn in 0..MOST_FRAMES {
-        if world.is_rest() {
-            return Ok(());
-        }
-        assert_eq!(rt; deliver(rt, world), Ok(()));
+fn mark(rt: &impl Abort, world: &mut World, index: u32) {
+    check_next(rt, world, index);
+    world.mark(index, &Step::Settle).expect(rt, "a choice");
+}
+
+// Takes the oldest frame, if one is outstanding.
+fn deliver_one(rt: &impl Abort, world: &mut World) {
+    if !world.is_rest() {
+        deliver(rt, world).expect(rt, "a delivery");
     }
-    Err("frames that don't end")?
+}
+
+// Takes frames, the oldest first, until none is outstanding.
+fn settle(rt: &impl Abort, world: &mut World, index: u32) {
+    mark(rt, world, index);
+    for _turn in 0..MOST_FRAMES {
+        deliver_one(rt, world);
+    }
+    assert!(rt; world.is_rest());
 }
 
 // All steps were run.
 fn finish(rt: &impl Abort, world: &mut World, steps: u32) {
     assert!(rt; may_go_on(world));
     assert!(rt; have_begun(world, steps));
-    assert_eq!(rt; world.finish(steps), Ok(()));
+    world.finish(steps).expect(rt, "an end");
+}
+
+// The log has so many records.
+fn check_log(rt: &impl Abort, world: &World, records: usize) {
+    assert!(rt; world.log().len() == records);
 }
 
 // ---- the tests
 
-// A node has begun to join: one frame is outstanding, to the node that it knows.
+// A node that isn't there joins.
+fn start_join(rt: &impl Abort, world: &mut World, name: Name) {
+    assert!(rt; world.node(name).is_none());
+    start(rt, world, 1, "join 01 via 00");
+}
+
+// It has begun to join: one frame is outstanding, to the node that it knows.
 fn see_joining(rt: &impl Abort, world: &World, name: Name) {
-    assert_eq!(rt; world.outstanding(), 1);
-    assert_eq!(rt; world.newest(), Some(0));
-    assert_eq!(rt; world.place_of(0), Some(0));
+    assert!(rt; world.outstanding() == 1);
+    assert!(rt; world.newest() == Some(0));
+    assert!(rt; world.place_of(0) == Some(0));
     assert!(rt; world.node(name).is_some());
     assert!(rt; !world.is_core(name));
 }
@@ -280,162 +280,133 @@ fn see_joining(rt: &impl Abort, world: &World, name: Name) {
 // It has joined, and all is at rest.
 fn see_joined(rt: &impl Abort, world: &World, name: Name) {
     assert!(rt; world.is_rest());
-    assert_eq!(rt; world.newest(), None);
-    assert_eq!(rt; world.place_of(0), None);
+    assert!(rt; world.newest() == None);
+    assert!(rt; world.place_of(0) == None);
     assert!(rt; world.is_core(name));
     assert!(rt; world.table_of(name).is_some());
 }
 
-fn join(rt: &impl Abort, world: &mut World) -> Result<(), Fail> {
-    let name = name_of(&world.settings(), "01")?;
-    assert!(rt; world.node(name).is_none());
-    start(rt, world, 1, "join 01 via 00")?;
-    see_joining(rt, world, name);
-    settle(rt, world, 2)?;
-    see_joined(rt, world, name);
-    observe(rt, world, 3, "table 01")?;
-    finish(rt, world, 3);
-    // The beginning, the join and its frame, the choice, eight frames that are taken, seven that are sent, that the node is core, what
-    // is seen, and the end.
-    assert_eq!(rt; world.log().len(), 23);
-    Ok(())
-}
-
+// The beginning, the join and its frame, the choice, eight frames that are taken, seven that are sent, that the node is core, what is
+// seen, and the end.
 #[test]
-fn a_node_joins_and_is_seen(rt: HostRuntime) -> Result<(), Fail> {
-    let mut world = one_member(rt.alloc(), 100)?;
-    join(&rt, &mut world)
+fn a_node_joins_and_is_seen(rt: HostRuntime) {
+    let mut world = one_member(&rt, rt.alloc(), 100);
+    let name = name_of(&rt, &world.settings(), "01");
+    start_join(&rt, &mut world, name);
+    see_joining(&rt, &world, name);
+    settle(&rt, &mut world, 2);
+    see_joined(&rt, &world, name);
+    observe(&rt, &mut world, 3, "table 01");
+    finish(&rt, &mut world, 3);
+    check_log(&rt, &world, 23);
 }
 
 // The first step has the greatest index: it is taken, no index may come after it, and the run is finished.
-fn end_at_the_greatest_index(rt: &impl Abort, world: &mut World) -> Result<(), Fail> {
-    assert!(rt; !none_is_next(world));
-    start(rt, world, 1_000_000, "join 01 via 00")?;
-    assert!(rt; none_is_next(world));
-    finish(rt, world, 1);
-    assert_eq!(rt; world.log().len(), 4);
-    Ok(())
-}
-
 #[test]
-fn no_step_comes_after_the_greatest_index(rt: HostRuntime) -> Result<(), Fail> {
-    let mut world = one_member(rt.alloc(), 100)?;
-    end_at_the_greatest_index(&rt, &mut world)
+fn no_step_comes_after_the_greatest_index(rt: HostRuntime) {
+    let mut world = one_member(&rt, rt.alloc(), 100);
+    assert!(rt; !none_is_next(&world));
+    start(&rt, &mut world, 1_000_000, "join 01 via 00");
+    assert!(rt; none_is_next(&world));
+    finish(&rt, &mut world, 1);
+    check_log(&rt, &world, 4);
 }
 
-// A copy with another byte is no frame; a cut beyond the frame's bytes is refused, and the refusal noted.
-fn damage(rt: &impl Abort, world: &mut World) -> Result<(), Fail> {
-    start(rt, world, 1, "join 01 via 00")?;
-    assert_eq!(rt; garble(rt, world, 2, "garble 0 0 255")?, Ok(()));
-    assert_eq!(rt; world.log().len(), 5);
-    let refusal = Refusal::NoSuchByte(10);
-    assert_eq!(rt;
-        garble(rt, world, 4, "cut 0 99")?,
-        Err(Stop::Refused(refusal))
-    );
-    assert_eq!(rt; world.refused(), Some(refusal));
-    note(rt, world, 4)?;
-    assert_eq!(rt; world.log().len(), 7);
-    assert_eq!(rt; world.outstanding(), 1);
-    Ok(())
+// A cut beyond the frame's bytes is refused.
+fn cut(rt: &impl Abort, world: &mut World) {
+    let refused = Err(Stop::Refused(Refusal::NoSuchByte(10)));
+    assert!(rt; garble(rt, world, 4, "cut 0 99") == refused);
+    assert!(rt; world.refused() == Some(Refusal::NoSuchByte(10)));
 }
 
 // The refusal that a call has answered is noted.
-fn note(rt: &impl Abort, world: &mut World, index: u32) -> Result<(), Fail> {
-    let Some(refusal) = world.refused() else {
-        return Err("a refusal")?;
-    };
+fn note(rt: &impl Abort, world: &mut World, index: u32) {
+    let refusal = world.refused().expect(rt, "a refusal");
     assert!(rt; ends_with_step(world, index));
-    assert_eq!(rt; world.note(index, refusal), Ok(()));
-    assert_eq!(rt; world.refused(), None);
-    Ok(())
+    world.note(index, refusal).expect(rt, "a note");
+    assert!(rt; world.refused() == None);
 }
 
+// A copy with another byte is no frame; a cut beyond the frame's bytes is refused, and the refusal noted.
 #[test]
-fn damaged_copies_are_offered(rt: HostRuntime) -> Result<(), Fail> {
-    let mut world = one_member(rt.alloc(), 100)?;
-    damage(&rt, &mut world)
+fn damaged_copies_are_offered(rt: HostRuntime) {
+    let mut world = one_member(&rt, rt.alloc(), 100);
+    start(&rt, &mut world, 1, "join 01 via 00");
+    assert!(rt; garble(&rt, &mut world, 2, "garble 0 0 255") == Ok(()));
+    check_log(&rt, &world, 5);
+    cut(&rt, &mut world);
+    note(&rt, &mut world, 4);
+    check_log(&rt, &world, 7);
+    assert!(rt; world.outstanding() == 1);
 }
 
 // The first frame may be sent, and those of its receiver no more.
-fn spend(rt: &impl Abort, world: &mut World) -> Result<(), Fail> {
-    start(rt, world, 1, "join 01 via 00")?;
-    assert_eq!(rt; deliver(rt, world), Err(Stop::Spent));
-    assert_eq!(rt; world.log().len(), 4);
-    assert_eq!(rt; deliver(rt, world), Err(Stop::Ended));
-    assert_eq!(rt; world.log().len(), 4);
-    Ok(())
+fn spend(rt: &impl Abort, world: &mut World) {
+    start(rt, world, 1, "join 01 via 00");
+    assert!(rt; deliver(rt, world) == Err(Stop::Spent));
+    check_log(rt, world, 4);
 }
 
 #[test]
-fn no_more_frames_are_sent_than_may_be(rt: HostRuntime) -> Result<(), Fail> {
-    let mut world = one_member(rt.alloc(), 1)?;
-    spend(&rt, &mut world)
+fn no_more_frames_are_sent_than_may_be(rt: HostRuntime) {
+    let mut world = one_member(&rt, rt.alloc(), 1);
+    spend(&rt, &mut world);
+    assert!(rt; deliver(&rt, &mut world) == Err(Stop::Ended));
+    check_log(&rt, &world, 4);
 }
 
 // ---- remarks
 
-// A remark: that a packet is made.
+// A remark is added: that a packet is made.
 #[tactic(auto, unfolding(tap_log::specs::Reduced::is_added))]
-fn packet(number: u32) -> Record
-    ensures { is_added result ≡ true }
-{
-    Record::Packet {
+fn remark(rt: &impl Abort, world: &mut World, number: u32) -> Result<(), Stop> {
+    assert!(rt; may_go_on(world));
+    world.remark(Record::Packet {
         number,
         frame: 0,
         ack: false,
-    }
+    })
 }
 
-// A remark is added.
-fn remark(rt: &impl Abort, world: &mut World, item: Record) -> Result<(), Stop>
-    requires { is_added item ≡ true }
-{
-    assert!(rt; may_go_on(world));
-    world.remark(item)
+// A remark is added before the first frame is taken, and one after that. They change nothing that is said of the plain records.
+fn remark_twice(rt: &impl Abort, world: &mut World) {
+    assert!(rt; remark(rt, world, 0) == Ok(()));
+    assert!(rt; world.place_of(0) == Some(0));
+    assert!(rt; deliver(rt, world) == Ok(()));
+    assert!(rt; remark(rt, world, 1) == Ok(()));
+    assert!(rt; world.place_of(0) == None);
+    assert!(rt; world.place_of(1) == Some(0));
+    assert!(rt; world.place_of(9) == None);
 }
 
-// Between the groups stand remarks. They change nothing that is said of the plain records.
-fn remark_between(rt: &impl Abort, world: &mut World) -> Result<(), Fail> {
-    start(rt, world, 1, "join 01 via 00")?;
-    assert_eq!(rt; remark(rt, world, packet(0)), Ok(()));
-    assert_eq!(rt; world.place_of(0), Some(0));
-    assert_eq!(rt; deliver(rt, world), Ok(()));
-    assert_eq!(rt; remark(rt, world, packet(1)), Ok(()));
-    assert_eq!(rt; world.place_of(0), None);
-    assert_eq!(rt; world.place_of(1), Some(0));
-    assert_eq!(rt; world.place_of(9), None);
-    settle(rt, world, 2)?;
-    // The beginning, the join and its frame, the choice, eight frames that are taken, seven that are sent, that the node is core, and two
-    // remarks.
-    assert_eq!(rt; world.log().len(), 22);
+// The record at the place 3 is the first remark.
+fn see_remark(rt: &impl Abort, world: &World) {
     assert!(rt;
         matches!(
             world.log().as_slice().get(3),
             Some(Record::Packet { number: 0, .. })
         )
     );
-    finish(rt, world, 2);
-    Ok(())
 }
 
+// Between the groups stand remarks: the beginning, the join and its frame, the choice, eight frames that are taken, seven that are sent,
+// that the node is core, and two remarks.
 #[test]
-fn remarks_stand_between_groups(rt: HostRuntime) -> Result<(), Fail> {
-    let mut world = one_member(rt.alloc(), 100)?;
-    remark_between(&rt, &mut world)
+fn remarks_stand_between_groups(rt: HostRuntime) {
+    let mut world = one_member(&rt, rt.alloc(), 100);
+    start(&rt, &mut world, 1, "join 01 via 00");
+    remark_twice(&rt, &mut world);
+    settle(&rt, &mut world, 2);
+    check_log(&rt, &world, 22);
+    see_remark(&rt, &world);
+    finish(&rt, &mut world, 2);
 }
 
 // After `Spent` no remark is added.
-fn remark_after_spent(rt: &impl Abort, world: &mut World) -> Result<(), Fail> {
-    start(rt, world, 1, "join 01 via 00")?;
-    assert_eq!(rt; deliver(rt, world), Err(Stop::Spent));
-    assert_eq!(rt; remark(rt, world, packet(0)), Err(Stop::Ended));
-    assert_eq!(rt; world.log().len(), 4);
-    Ok(())
-}
-
 #[test]
-fn no_remark_is_added_to_a_world_that_was_stopped(rt: HostRuntime) -> Result<(), Fail> {
-    let mut world = one_member(rt.alloc(), 1)?;
-    remark_after_spent(&rt, &mut world)
+fn no_remark_is_added_to_a_world_that_was_stopped(rt: HostRuntime) {
+    let mut world = one_member(&rt, rt.alloc(), 1);
+    spend(&rt, &mut world);
+    assert!(rt; remark(&rt, &mut world, 0) == Err(Stop::Ended));
+    check_log(&rt, &world, 4);
 }
