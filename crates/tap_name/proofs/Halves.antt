@@ -80,6 +80,18 @@ joined_front (suc n) (x ∷ []) others len = absurd (omega (arith, len))
 joined_front (suc n) (x ∷ y ∷ digits) others len =
     ap (λ (bytes : List ℕ). (x * 16 + y) ∷ bytes) (joined_front n digits others (omega (arith, len)))
 
+-- ---- two digits that are put together by one product
+
+pub product_joins : (first second : ℕ) → first < 16 → second < 16 → (first + 256 * second) * 4097 % 65536 / 256 ≡ first * 16 + second
+product_joins first second small also =
+    let low : first * 4097 + 256 * second < 65536 = omega (arith, small, also) in
+    let split : (first + 256 * second) * 4097 ≡ first * 4097 + 256 * second + 16 * second * 65536 = omega arith in
+    let rest : (first + 256 * second) * 4097 % 65536 ≡ first * 4097 + 256 * second = omega (arith, low, split) in
+    let high : (first * 4097 + 256 * second) / 256 ≡ first * 16 + second = omega (arith, small) in
+    ap (λ n. n / 256) rest ∙ high
+
+-- ---- digits that are put together one after another
+
 joined_last : (n : ℕ) (digits : List ℕ) (high low : ℕ) → length digits ≡ 2 * n
     → joined (digits ++ high ∷ low ∷ []) ≡ joined digits ++ (high * 16 + low) ∷ []
 joined_last zero [] high low len = refl

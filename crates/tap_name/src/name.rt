@@ -6,7 +6,7 @@ ghost use Rattle.std.specs.Cmp.{partial_equiv_from_equiv};
 ghost use Rattle.std.specs.Cmp.Lexicographic.{pointwise, slice_cmp, nat_list_eq_equiv, nat_list_cmp_total, texts_po, texts_ties};
 ghost use Rattle.std.specs.Ordering.{nat_cmp};
 ghost use Rattle.std.specs.Hash.{same_Alike};
-ghost use Rattle.std.specs.Int.{from_be_bytes, w64};
+ghost use Rattle.std.specs.Int.{from_be_bytes, w32, w64};
 ghost use Rattle.std.specs.List.{common_prefix_len};
 ghost use Rattle.tap_name.specs.Digits.{text_of_digit};
 ghost use Rattle.tap_name.specs.Name.{IsName, name_of_digits};
@@ -219,15 +219,28 @@ fn shared_halves(mine: &[u8; 20], theirs: &[u8; 20], most: usize) -> usize
     most
 }
 
-// Writes digits two a byte.
+// The byte that two digits make. The product moves the first one to the front of the second, so that many are put together at once.
 #[inline(always)]
-fn put_joined(digits: &[u8], pairs: &mut [u8])
+fn pair_of(first: u8, second: u8) -> u8
+    requires first { first < 16 }
+    requires second { second < 16 }
+    ensures { result ≡ first * 16 + second }
+{
+    let both = u16::from(first) + 256 * u16::from(second);
+    (both.wrapping_mul(4097) / 256) as u8
+}
+
+/// Writes digits two a byte, the first of each two as the high half.
+///
+/// Rule: docs/PROTOCOL.md, "Names".
+#[inline(always)]
+pub fn put_joined(digits: &[u8], pairs: &mut [u8])
     requires pairs { length digits.now ≡ 2 * length pairs.old }
     requires digits { All (λ d. d < 16) digits.now }
     ensures { pairs.new ≡ joined digits.now }
 {
     for at in 0..pairs.len() {
-        pairs[at] = digits[2 * at] * 16 + digits[2 * at + 1];
+        pairs[at] = pair_of(digits[2 * at], digits[2 * at + 1]);
     }
 }
 
@@ -291,7 +304,7 @@ fn are_same(mine: &Name, theirs: &Name) -> bool
     are_same_bytes(&mine.pairs, &theirs.pairs)
 }
 
-// Whether all bytes are the same: in three words of eight, of which the last two overlap.
+// Whether all bytes are the same, as two words of eight and one of four.
 #[inline(always)]
 fn are_same_bytes(mine: &[u8; 20], theirs: &[u8; 20]) -> bool
     ensures { result ≡ pointwise nat_eq mine.now theirs.now }
@@ -299,7 +312,15 @@ fn are_same_bytes(mine: &[u8; 20], theirs: &[u8; 20]) -> bool
     if word_at(mine, 0) != word_at(theirs, 0) || word_at(mine, 8) != word_at(theirs, 8) {
         return false;
     }
-    word_at(mine, 12) == word_at(theirs, 12)
+    last_word(mine) == last_word(theirs)
+}
+
+// The last four bytes as one number.
+#[inline(always)]
+fn last_word(bytes: &[u8; 20]) -> u32
+    ensures { result ≡ from_be_bytes w32 (take 4 (drop 16 bytes.now)) }
+{
+    u32::from_be_bytes([bytes[16], bytes[17], bytes[18], bytes[19]])
 }
 
 // The eight bytes from a place on as one number, in which the first is worth the most.
