@@ -21,6 +21,9 @@ use tap_scenario::Step;
 // The room for a step and one record after it, with the room that is kept after these.
 const ROOM_FOR_STEP: usize = 5;
 
+// The room for a step that is added alone, with the room that is kept after it.
+const ROOM_FOR_STEP_ALONE: usize = 4;
+
 // The room that is kept after a group: for a refusal, for the roots that a step asks for, and for the last record.
 const ROOM_KEPT: usize = 3;
 
@@ -59,7 +62,7 @@ impl Engine {
         ensures log { self.new.ledger.records ≡ self.old.ledger.records }
         ensures added { self.new.ledger.added ≡ self.old.ledger.added }
     {
-        self.ledger.reserve(4)?;
+        self.ledger.reserve(ROOM_FOR_STEP_ALONE)?;
         Ok(self.ledger.refusal(self.alloc, step)?)
     }
 
@@ -85,7 +88,7 @@ impl Engine {
         ensures at_hand { 4 ≤ self.old.ledger.spare → IsOk result }
         ensures err { OnErr result (self.new.ledger.records ≡ self.old.ledger.records) }
     {
-        self.ledger.reserve(4)?;
+        self.ledger.reserve(ROOM_FOR_STEP_ALONE)?;
         self.add_step(index, step);
         Ok(())
     }
