@@ -15,8 +15,6 @@ mod pushes;
 mod starts;
 mod stop;
 mod takes;
-#[cfg(test)]
-mod tests;
 mod turns;
 
 pub use engine::Engine;
