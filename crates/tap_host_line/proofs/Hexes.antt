@@ -1,5 +1,5 @@
 -- Hexadecimal digits that are taken at once.
-use Rattle.std.proofs.Common.{◌≡◌, ℕ, zero, suc, ◌+◌, ◌*◌, ◌/◌, ◌%◌, ◌<◌, List, [], ◌∷◌, ◌++◌, drop, length, map, replicate, take, All, Some, refl, ap, sym, subst, ◌∙◌, arith}
+use Rattle.std.proofs.Common.{◌≡◌, ℕ, zero, suc, ◌+◌, ◌*◌, ◌<◌, List, [], ◌∷◌, ◌++◌, drop, length, map, replicate, take, All, Some, refl, ap, sym, subst, ◌∙◌, arith}
 use Rattle.std.specs.Prelude.{Ok}
 use Rattle.std.proofs.lemmas.Bool.Decides.{nat_tests}
 use Rattle.std.proofs.lemmas.List.{length-map}
@@ -47,13 +47,3 @@ pub few_small : (front : List ℕ) (skipped count : ℕ) → All (λ digit. digi
 few_small front skipped count all =
     All-append (λ digit. digit < 16) front (drop skipped (replicate count 0)) all
     (All-drop (λ digit. digit < 16) skipped (replicate count 0) (All-replicate (λ digit. digit < 16) count 0 (omega arith)))
-
--- ---- two digits that are put together by one product
-
-pub product_joins : (first second : ℕ) → first < 16 → second < 16 → (first + 256 * second) * 4097 % 65536 / 256 ≡ first * 16 + second
-product_joins first second small also =
-    let low : first * 4097 + 256 * second < 65536 = omega (arith, small, also) in
-    let split : (first + 256 * second) * 4097 ≡ first * 4097 + 256 * second + 16 * second * 65536 = omega arith in
-    let rest : (first + 256 * second) * 4097 % 65536 ≡ first * 4097 + 256 * second = omega (arith, low, split) in
-    let high : (first * 4097 + 256 * second) / 256 ≡ first * 16 + second = omega (arith, small) in
-    ap (λ n. n / 256) rest ∙ high

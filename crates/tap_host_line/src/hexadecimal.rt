@@ -2,14 +2,13 @@ ghost use Rattle.std.specs.Prelude.{◌≡◌, ◌+◌, ◌<◌, ◌≤◌, ◌*
 ghost use Rattle.std.specs.Bool.{OnTrue};
 ghost use Rattle.hex.specs.Hex.{decode_of};
 ghost use Rattle.tap_name.specs.Digits.{digit_of_text};
-ghost use Rattle.tap_name.specs.Packed.{joined};
 ghost use Rattle.tap_host_line.specs.Line.{frame_of_word};
 
 use crate::draft::FEW_BYTES;
 use crate::memory::NoMemory;
 use hex::FromHexError;
 use std::alloc::Global;
-use tap_name::text_of_digit;
+use tap_name::{put_joined, text_of_digit};
 
 // The value of a digit, and 16 if the byte is none. It is made by numbers alone, without a branch, since many are made at once.
 #[inline(always)]
@@ -34,29 +33,6 @@ fn take_digits(text: &[u8], values: &mut [u8]) -> bool
         values[at] = value;
     }
     worst < 16
-}
-
-// The byte that two digits spell. The product moves the first one to the front of the second, so that many are put together at once.
-#[inline(always)]
-fn pair_of(first: u8, second: u8) -> u8
-    requires first { first < 16 }
-    requires second { second < 16 }
-    ensures { result ≡ first * 16 + second }
-{
-    let both = u16::from(first) + 256 * u16::from(second);
-    (both.wrapping_mul(4097) / 256) as u8
-}
-
-// Puts two digits in each place.
-#[inline(always)]
-fn put_joined(digits: &[u8], places: &mut [u8])
-    requires places { length digits.now ≡ 2 * length places.old }
-    requires digits { All (λ digit. digit < 16) digits.now }
-    ensures { places.new ≡ joined digits.now }
-{
-    for at in 0..places.len() {
-        places[at] = pair_of(digits[2 * at], digits[2 * at + 1]);
-    }
 }
 
 // The bytes that so few digits spell, if none is a capital letter. All places are put together at once, and the first of them taken.
