@@ -1,5 +1,5 @@
 -- What a turn of a player leaves, by whether the run is carried.
-use Rattle.std.proofs.Common.{◌≡◌, ◌≢◌, inl, inr, ◌<◌, ◌≤◌, Bool, true, false, List, [], ◌∷◌, ◌++◌, length, take, Option, None, Some, refl, sym, subst, ◌∙◌, append-nil, append_assoc}
+use Rattle.std.proofs.Common.{◌≡◌, ◌≢◌, inl, inr, ◌<◌, ◌≤◌, Bool, true, false, List, [], ◌∷◌, ◌++◌, length, take, Option, None, Some, refl, sym, subst}
 use Rattle.std.specs.Prelude.{nat_le, if◌then◌else◌}
 use Rattle.std.proofs.lemmas.Bool.{cases_lt, le-leb, lt-leb}
 use Rattle.tap_scenario.specs.Scenario.{IsScript, ScenarioValue}
@@ -9,11 +9,8 @@ use Rattle.tap_log.specs.Counts.{sent_count}
 use Rattle.tap_lawful.specs.CarriedNext.{carried_next_group}
 use Rattle.tap_lawful.specs.Lawful.{NextGroup, step_alone}
 use Rattle.tap_lawful.specs.Next.{uncarried_next_group}
-use Rattle.tap_lawful.specs.PlayedLaws.{BeginsWith}
 use Rattle.tap_lawful.specs.Runs.{IsFinishedBy, IsLogBy, IsPlayedBy, IsRunLog, IsRunSoFar, IsSpentBy, IsWholeRunLog, comes_next}
 use Rattle.tap_lawful.proofs.Runs.{finished_log, runs_by_carrier, spent_log, whole_log}
-use Rattle.tap_lawful.proofs.SameGroups.{begins_with}
-use Rattle.tap_replay.specs.CarriedPlayer.{StaysOrIsCut}
 use Rattle.tap_replay.specs.CarriedTurn.{carried_outcome_by, carried_turn_outcome}
 use Rattle.tap_replay.specs.Runs.{TurnsBy}
 use Rattle.tap_replay.specs.Turn.{TurnOutcome, outcome_by, turn_outcome, unless_finished}
@@ -153,32 +150,3 @@ module _ (s : ScenarioValue) (valid : IsScript s) (before after : List Record) (
   left_log (adds_last group next within finished done is) =
       whole_log s.carrier s after
       (finished_log s.carrier s (before ++ group) after (runs_by_carrier.more s before group valid played next within) finished)
-
--- ---- the records before the turn stand in front
-
-spent_front : (c : Bool) (s : ScenarioValue) (before after : List Record) → IsSpentBy c s before after → BeginsWith before after
-spent_front true s before after spent = begins_with before (take 1 spent.group ++ SpentRecord s.frames ∷ []) after spent.log_is
-spent_front false s before after spent = begins_with before (step_alone spent.group ++ SpentRecord s.frames ∷ []) after spent.log_is
-
-left_front : (c : Bool) (s : ScenarioValue) (before after : List Record) (given : Turned) → Leaves c s before given after → BeginsWith before after
-left_front c s before after given (finishes finished done is) = begins_with before (Finished (length s.steps) ∷ []) after is
-left_front c s before after given (spends spent is) = spent_front c s before after spent
-left_front c s before after given (adds group next within more is) = begins_with before group after is
-left_front c s before after given (adds_last group next within finished done is) =
-    begins_with before (group ++ Finished (length s.steps) ∷ []) after (is ∙ append_assoc before group (Finished (length s.steps) ∷ []))
-
--- memory was refused
-stayed_front : (s : ScenarioValue) (before after : List Record) → StaysOrIsCut s before after → BeginsWith before after
-stayed_front s before after (inl same) = begins_with before [] after (same ∙ sym (append-nil before))
-stayed_front s before after (inr cut) = begins_with before (take cut.kept cut.group) after cut.log_is
-
-lacked_front : (c : Bool) (s : ScenarioValue) (before after : List Record) → TurnsBy c s before (Over NoMemory) after → BeginsWith before after
-lacked_front true s before after turns = stayed_front s before after (turns.memory refl)
-lacked_front false s before after turns = begins_with before [] after (turns.memory refl ∙ sym (append-nil before))
-
-pub turned_front : (c : Bool) (s : ScenarioValue) (before after : List Record) (given : Turned) → TurnsBy c s before given after
-    → BeginsWith before after
-turned_front c s before after More turns = left_front c s before after More (leaves s before More after c turns (λ is. cc))
-turned_front c s before after (Over Done) turns = left_front c s before after (Over Done) (leaves s before (Over Done) after c turns (λ is. cc))
-turned_front c s before after (Over Spent) turns = left_front c s before after (Over Spent) (leaves s before (Over Spent) after c turns (λ is. cc))
-turned_front c s before after (Over NoMemory) turns = lacked_front c s before after turns

@@ -20,7 +20,7 @@ use Rattle.tap_shape.specs.Shape.{IsShape}
 use Rattle.tap_judge.specs.Comparing.{SameUntil, verdict_by}
 use Rattle.tap_judge.specs.Verdict.{IsVerdictOn}
 use Rattle.tap_judge.specs.declared.verdict.Verdict.{Verdict}
-use Rattle.tap_judge.proofs.Leaving.{Leaves, leaves, run_so_far, turned_front}
+use Rattle.tap_judge.proofs.Leaving.{Leaves, leaves, run_so_far}
 use Rattle.tap_judge.proofs.Scripts.{own_begins}
 use Rattle.tap_judge.proofs.Verdicts.{Says, less, says}
 
@@ -45,12 +45,6 @@ left_so : (s : ScenarioValue) (p after : PlayerValue) (given : Turned) → Takes
     → Leaves s.carrier s (whole_log p.world) given (whole_log after.world)
 left_so s p after given turns none enough =
     leaves s (whole_log p.world) given (whole_log after.world) s.carrier (turned_so s p after given turns none) enough
-
--- the records before it stand in front
-pub turn_front : (s : ScenarioValue) (p after : PlayerValue) (given : Turned) → TakesTurn s p given after → p.over ≡ None
-    → BeginsWith (whole_log p.world) (whole_log after.world)
-turn_front s p after given turns none =
-    turned_front s.carrier s (whole_log p.world) (whole_log after.world) given (turned_so s p after given turns none)
 
 -- the verdict after it
 pub turn_says : (s : ScenarioValue) (log : List Record) → s ≡ own_script log → IsScript s → (p after : PlayerValue) (given : Turned)

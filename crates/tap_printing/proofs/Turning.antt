@@ -1,5 +1,5 @@
 -- The turns of a player: that its log only grows, and that it can be printed.
--- Cited above: player_prints
+-- Cited above: player_prints, turn_front
 use Rattle.std.proofs.Common.{◌≡◌, inl, inr, ◌≤◌, Bool, true, false, List, [], ◌∷◌, ◌++◌, length, take, Option, None, Some, refl, ap, sym, subst, ◌∙◌, arith, append_assoc, append-nil, take-take}
 use Rattle.std.specs.Prelude.{nat_le, MatchOption}
 use Rattle.std.proofs.Math.Seq.{take-length}

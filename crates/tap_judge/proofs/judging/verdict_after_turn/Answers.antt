@@ -2,20 +2,21 @@ use Rattle.std.proofs.Common.{◌≡◌, ◌∙◌, ap, length, subst, sym}
 use Rattle.tap_engine.specs.World.{whole_log}
 use Rattle.tap_replay.specs.Player.{over_by}
 use Rattle.tap_own_scripts.proofs.Fronts.{size_of}
+use Rattle.tap_printing.proofs.Turning.{turn_front}
 use Rattle.tap_judge.specs.Comparing.{SameUntil}
-use Rattle.tap_judge.proofs.Players.{same_verdict, said, turn_front, turn_says, unsaid}
+use Rattle.tap_judge.proofs.Players.{same_verdict, said, turn_says, unsaid}
 use Rattle.tap_judge.proofs.Verdicts.{Says}
 use Rattle.tap_judge.proofs.judging.verdict_after_turn.Goals as goal
 
 pub same_records-same-requires-clause-run : goal.same_records-same-requires-clause-run
 same_records-same-requires-clause-run c =
-    let front = turn_front c.args.scenario.now c.args.player.now c.turn-turned.new.self c.turn-turned.result c.turn-turned.ensures.turns c.requires.begun in
+    let front = turn_front c.args.scenario.now c.args.player.now c.turn-turned.result c.turn-turned.new.self c.turn-turned.ensures.turns c.requires.begun in
     let within = size_of (whole_log c.args.player.now.world) (whole_log c.turn-turned.new.self.world) front in
     rw (c.as_slice.ensures, c.log-2.ensures, c.len-seen.ensures, c.log.ensures) within
 
 pub same_records-same-requires-clause-same : goal.same_records-same-requires-clause-same
 same_records-same-requires-clause-same c =
-    let front = turn_front c.args.scenario.now c.args.player.now c.turn-turned.new.self c.turn-turned.result c.turn-turned.ensures.turns c.requires.begun in
+    let front = turn_front c.args.scenario.now c.args.player.now c.turn-turned.result c.turn-turned.new.self c.turn-turned.ensures.turns c.requires.begun in
     rw (c.as_slice-2.ensures, c.as_slice.ensures, c.log-2.ensures, c.len-seen.ensures, c.log.ensures) (c.requires.begins ∙ sym front)
 
 -- what the turn and the comparison say
