@@ -109,6 +109,8 @@ impl World {
     /// added alone, and then `Spent`. `NoMemory` adds nothing. `Ended` comes exactly if an earlier call answered `Spent` or
     /// `NoMemory`, and changes nothing.
     ///
+    /// Condition: the index is above those of all earlier steps, at least 1 and at most 1,000,000.
+    ///
     /// Rule: docs/FORMATS.md, "The course of a run".
     pub fn start(&mut self, index: u32, step: &Step) -> Result<(), Stop>
         requires goes_on { MayGoOn self.old }
@@ -132,6 +134,8 @@ impl World {
     /// A step observes: a walk, a root, a table, or the pairs that a node holds. Its group is the step, and what it sees.
     ///
     /// The answers are those of `start`, but that `Spent` never comes. No node changes.
+    ///
+    /// Condition: the index is above those of all earlier steps, at least 1 and at most 1,000,000.
     ///
     /// Rule: docs/FORMATS.md, "The course of a run".
     pub fn observe(&mut self, index: u32, step: &Step) -> Result<(), Stop>
@@ -159,6 +163,8 @@ impl World {
     /// so many first bytes are there. Its group is the step, and why the copy is no frame.
     ///
     /// The frame stays outstanding. The answers are those of `start`, but that `Spent` never comes. No node changes.
+    ///
+    /// Condition: the index is above those of all earlier steps, at least 1 and at most 1,000,000.
     ///
     /// Rule: docs/FORMATS.md, "The course of a run".
     pub fn garble(&mut self, index: u32, step: &Step) -> Result<(), Stop>
@@ -208,6 +214,8 @@ impl World {
     /// A step only chooses what is taken next, what becomes of packets, or whose roots are asked for: it is added alone.
     ///
     /// `NoMemory` adds nothing. `Ended` comes exactly if an earlier call answered `Spent` or `NoMemory`, and changes nothing.
+    ///
+    /// Condition: the index is above those of all earlier steps, at least 1 and at most 1,000,000.
     ///
     /// Rule: docs/FORMATS.md, "The course of a run".
     pub fn mark(&mut self, index: u32, step: &Step) -> Result<(), Stop>
