@@ -31,6 +31,7 @@ use Rattle.tap_headline.specs.Headline.{HasHeadline}
 use Rattle.tap_headline.proofs.CarriedEnds.{as_run, cut_alike, cut_frames, finished_alike, finished_ends, finished_frames, kept, reduced_run}
 use Rattle.tap_headline.proofs.CarriedMoments.{HasBegun, IsEarlierOrLast, IsSoFar, begun_cases, begun_end, begun_more, cut_moments, finished_cases, first_step, so_far, step_begun}
 use Rattle.tap_headline.proofs.CarriedTaken.{all_arrived, all_taken, cut_all, each_once, finished_all, front_keeps, played_keeps}
+use Rattle.tap_headline.proofs.FewPackets.{few_made}
 use Rattle.tap_headline.proofs.Headline.{ended_logs_have_headline}
 use Rattle.tap_headline.proofs.Openings.{HasOpening, IsOpening, opening_begins, opening_ends, opening_of}
 use Rattle.tap_headline.proofs.RootSetLogs.{carried_right}
@@ -208,6 +209,7 @@ carried_logs_have_headline s log script of =
       arrived = all_arrived s log script of;
       taken_once = each_once s log script of;
       rest_all_taken = λ m is. (all m is).taken;
+      few_packets = few_made s log script of;
       root_sets = carried_right s script log of;
     }
 

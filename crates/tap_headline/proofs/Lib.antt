@@ -17,6 +17,7 @@ mod Openings
 mod CarriedEnds
 mod CarriedMoments
 mod CarriedTaken
+mod FewPackets
 mod RootSets
 mod RootSetLogs
 mod CarriedHeadline

@@ -5,7 +5,8 @@ use Rattle.tap_scenario.specs.declared.step.Step.{Step}
 use Rattle.tap_scenario.specs.Scenario.{ScenarioValue}
 use Rattle.tap_log.specs.declared.record.Record.{Record}
 use Rattle.tap_log.specs.declared.record.Record.TheVariants.{Arrived, Carrier, Spent, Step as StepRecord, Ticked}
-use Rattle.tap_log.specs.Kinds.{begins_group, sent_number, taken_number}
+use Rattle.tap_log.specs.Counts.{packet_count}
+use Rattle.tap_log.specs.Kinds.{begins_group, packet_number, sent_number, taken_number}
 use Rattle.tap_log.specs.Log.{begun_steps}
 use Rattle.tap_log.specs.Reduced.{is_added, reduced}
 use Rattle.tap_history.specs.Refusals.{first_refusal}
@@ -83,6 +84,13 @@ opening_takes (StepRecord index step) opens = refl
 opening_takes (Arrived packet) opens = refl
 opening_takes Ticked opens = refl
 opening_takes first opens = absurd opens
+
+pub opening_makes : (first : Record) (after : List Record) → IsOpening first → packet_count (first ∷ after) ≡ packet_count after
+unfolding IsOpening packet_number
+opening_makes (StepRecord index step) after opens = refl
+opening_makes (Arrived packet) after opens = refl
+opening_makes Ticked after opens = refl
+opening_makes first after opens = absurd opens
 
 -- with how many frames may be sent after it, it may end a log
 pub opening_ends : (log : List Record) (first : Record) (limit : ℕ) → IsOpening first → MayEnd log (reduced (first ∷ Spent limit ∷ []))

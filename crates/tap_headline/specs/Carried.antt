@@ -1,11 +1,11 @@
 -- The headline of each log of a carried run, however far the run has come and however it has ended.
 --
 -- Rule: docs/FORMATS.md, "The course of a run" and "The ways a run ends".
-use Rattle.std.specs.Prelude.{◌≡◌, ◌⊎◌, ◌<◌, ◌≤◌, ℕ, true, List, ◌∷◌, ◌++◌, length, take}
+use Rattle.std.specs.Prelude.{◌≡◌, ◌⊎◌, ◌+◌, ◌*◌, ◌<◌, ◌≤◌, ℕ, true, List, ◌∷◌, ◌++◌, length, take}
 use Rattle.tap_scenario.specs.Scenario.{ScenarioValue}
 use Rattle.tap_log.specs.declared.record.Record.{Record}
 use Rattle.tap_log.specs.declared.record.Record.TheVariants.{Taken}
-use Rattle.tap_log.specs.Counts.{sent_count}
+use Rattle.tap_log.specs.Counts.{packet_count, sent_count}
 use Rattle.tap_log.specs.Reduced.{reduced}
 use Rattle.tap_history.specs.Moments.{is_moment, is_rest}
 use Rattle.tap_packets.specs.MayCome.{HasJustArrived}
@@ -43,10 +43,14 @@ IsAllTakenAtRest log = is_rest log ≡ true → (frame : ℕ) → frame < sent_c
 abbrev pub AreTakenFromPackets : List Record → Type 0
 AreTakenFromPackets log = (before after : List Record) (frame : ℕ) → log ≡ before ++ Taken frame ∷ after → HasJustArrived before frame
 
+-- packets: at most two for each frame that may be sent, two for each step, and 200,000
+abbrev pub MakesFewPackets : ScenarioValue → List Record → Type 0
+MakesFewPackets s log = packet_count log ≤ 2 * s.frames + 2 * length s.steps + 200000
+
 -- What holds of the log of a carried run. Up to each moment of it, its reduced log has the headline, as that of a run without packets has it; the
 -- moment is one of the reduced log, a rest is a rest; and both say the same of frames, nodes and pairs, and refuse the same starts and
 -- observations. Whatever packets are lost, repeated or late, frames are taken from packets, none is taken twice, and at a rest each that was sent
--- was taken. What root sets have told is right.
+-- was taken. Few packets are made. What root sets have told is right.
 pub record CarriedRunHasHeadline (s : ScenarioValue) (log : List Record) : Type 0 where
   pub headline : AtCarriedMomentsOf s log (λ front. HasHeadline s.settings (reduced front))
   pub moments : AtCarriedMomentsOf s log IsMomentOfReduced
@@ -54,6 +58,7 @@ pub record CarriedRunHasHeadline (s : ScenarioValue) (log : List Record) : Type 
   pub arrived : AreTakenFromPackets log
   pub taken_once : (frame : ℕ) → times_taken log frame ≤ 1
   pub rest_all_taken : AtCarriedMomentsOf s log IsAllTakenAtRest
+  pub few_packets : MakesFewPackets s log
   pub root_sets : RootSetsAreRight s.settings log
 
 -- each log of a carried run has it: that of one which isn't over, or which ended early for want of memory, and that of one which is over
