@@ -19,7 +19,7 @@ MARK = b"tapestry1"
 MOST_BYTES = 32_768
 PIPE = 60_000
 STARTS = ("join", "publish", "withdraw", "find", "cast", "leave", "abandon")
-STATUS = ("status", "links", "pairs", "sessions", "span", "awaits")
+STATUS = ("status", "links", "holders", "pairs", "sessions", "span", "awaits")
 
 
 class Ended(Exception):

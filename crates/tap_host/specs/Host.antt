@@ -3,7 +3,7 @@
 -- A line: `host_line`, then `host_step`, then what stands there for its kind. A start and a packet go on with `after_step`.
 --
 -- Rule: docs/NETWORK.md, "Lines".
-use Rattle.std.specs.Prelude.{◌≡◌, ℕ, ◌+◌, ◌||◌, nat_le, not, Bool, true, false, if◌then◌else◌, List, [], ◌++◌, length, Option, None, Some, Result, Ok, Err, codes}
+use Rattle.std.specs.Prelude.{◌≡◌, ℕ, ◌+◌, ◌||◌, nat_le, not, Bool, true, false, if◌then◌else◌, List, [], ◌++◌, length, Option, None, Some, unwrap_or, Result, Ok, Err, codes}
 use Rattle.tap_name.specs.Name.{Name}
 use Rattle.tap_name.specs.Names.{has_name}
 use Rattle.tap_name.specs.Settings.{SettingsValue}
@@ -18,7 +18,7 @@ use Rattle.tap_node.specs.declared.fault.NodeFault.TheVariants as fault
 use Rattle.tap_node.specs.declared.status.NodeStatus.{NodeStatus}
 use Rattle.tap_node.specs.declared.status.NodeStatus.TheVariants.{Joining, Core, Leaving, Gone, Ceased, Ended}
 use Rattle.tap_node.specs.declared.turn.Turn.{Turn}
-use Rattle.tap_node.specs.Node.{NodeValue, has_room_left, node_status, pointers_lent, running, table_lent}
+use Rattle.tap_node.specs.Node.{NodeValue, has_room_left, holders_lent, node_status, pointers_lent, running, table_lent}
 use Rattle.tap_node.specs.Outcome.{Outcome, start_outcome, take_outcome}
 use Rattle.tap_carry.specs.Names.{is_name, is_same}
 use Rattle.tap_carry.specs.Outbox.{most_frames}
@@ -155,7 +155,7 @@ at_head host number from seq frame (Ok head) =
     if is_name head.from from then at_number host number from seq frame else refused host number why.Foreign
 at_head host number from seq frame (Err cause) = refused host number why.Damaged
 
--- how many links and pairs there are, and pairs that are held or laid; a node without a table has none
+-- how many links and pairs there are, and pairs that are held or laid; a node without a table has none, and no holders
 abbrev pub link_count : Option TableValue → ℕ
 link_count None = 0
 link_count (Some table) = length (rows table)
@@ -182,6 +182,7 @@ abbrev pub text_of_host : HostSeen → List ℕ
 text_of_host host =
     text_of_status (status_word (node_status (node_of host)))
     ++ text_of_count (codes "links") (link_count (table_lent (node_of host)))
+    ++ text_of_count (codes "holders") (unwrap_or (holders_lent (node_of host)) 0)
     ++ text_of_count (codes "pairs") (pair_count (pointers_lent (node_of host)))
     ++ text_of_count (codes "sessions") (length (node_of host).state.sessions.sessions)
     ++ text_of_count (codes "span") (span_count (pointers_lent (node_of host)))

@@ -239,6 +239,7 @@ impl Host {
         };
         put_status(out, status_word(node.status()))?;
         put_count(out, "links", links as u64)?;
+        put_count(out, "holders", node.holder_count().unwrap_or(0) as u64)?;
         put_count(out, "pairs", pairs as u64)?;
         put_count(out, "sessions", node.sessions().open_count() as u64)?;
         put_count(out, "span", span as u64)?;

@@ -1,10 +1,11 @@
 -- What contracts see of a node, and what its calls answer.
 --
 -- Rule: docs/PROTOCOL.md, "Nodes" and "Steps of a node" and "Refused frames".
-use Rattle.std.specs.Prelude.{◌≡◌, ℕ, ◌||◌, Bool, true, false, if◌then◌else◌, List, Option, None, Some, Result, Ok, Err}
+use Rattle.std.specs.Prelude.{◌≡◌, ℕ, ◌||◌, Bool, true, false, if◌then◌else◌, List, length, Option, None, Some, Result, Ok, Err}
 use Rattle.tap_name.specs.Settings.{SettingsValue}
 use Rattle.tap_session.specs.Session.{SessionsValue}
 use Rattle.tap_table.specs.Table.{TableValue}
+use Rattle.tap_table.specs.Ties.{holders_on}
 use Rattle.tap_pointer.specs.Pointers.{PointersValue}
 use Rattle.tap_rule.specs.Node.{NodeState, Status, name_of, settings_of}
 use Rattle.tap_rule.specs.Node.Status.{Joining, Core, Leaving, Gone, Ceased}
@@ -53,6 +54,10 @@ table_lent node = if lends_table node then Some node.state.ties.table else None
 
 abbrev pub pointers_lent : NodeValue → Option PointersValue
 pointers_lent node = if lends_table node then Some node.state.pointers else None
+
+-- how many nodes have a link to it, as far as it knows
+abbrev pub holders_lent : NodeValue → Option ℕ
+holders_lent node = if lends_table node then Some (length (holders_on node.state.ties)) else None
 
 -- numbers are left for a step, or it takes none any more
 abbrev pub has_room_left : NodeValue → Bool

@@ -6,7 +6,7 @@ ghost use Rattle.tap_rule.specs.Node.{joiner, member_at_rest, name_of, settings_
 ghost use Rattle.tap_rule.specs.Strange.{is_own_name, is_strange};
 ghost use Rattle.tap_wire.specs.Spelling.{IsFrame};
 ghost use Rattle.tap_node_common.specs.SoundNode.{join_sessions_limit, pairs_limit, stamp_limit};
-ghost use Rattle.tap_node.specs.Node.{has_room_left, node_status, pointers_lent, running, table_lent};
+ghost use Rattle.tap_node.specs.Node.{has_room_left, holders_lent, node_status, pointers_lent, running, table_lent};
 
 use crate::fault::NodeFault;
 use crate::state::State;
@@ -128,6 +128,18 @@ impl Node {
             State::Joining(node) => Some(node.joining.ties().table()),
             State::Core(node) => Some(node.core.ties().table()),
             State::Leaving(node) => Some(node.leaving.ties().table()),
+            State::Gone(_) | State::Ceased(_) | State::Ended(_) => None,
+        }
+    }
+
+    /// How many nodes have a link to it, as far as it knows, `None` exactly if its status is `Gone`, `Ceased` or `Ended`.
+    pub fn holder_count(&self) -> Option<usize>
+        ensures { result ≡ holders_lent self.now }
+    {
+        match &self.state {
+            State::Joining(node) => Some(node.joining.ties().holder_count()),
+            State::Core(node) => Some(node.core.ties().holder_count()),
+            State::Leaving(node) => Some(node.leaving.ties().holder_count()),
             State::Gone(_) | State::Ceased(_) | State::Ended(_) => None,
         }
     }
