@@ -1,10 +1,12 @@
 -- Names, and pairs of a name and a number, as keys: a query finds a key exactly if they are the same.
-use Rattle.std.proofs.Common.{◌≡◌, ℕ, true, false, Bool, nat_eq, ◌&&◌, List, Option, Some, unwrap_or, refl, sym, ap, ◌∙◌, cond, true≢false, if◌then◌else◌}
+use Rattle.std.proofs.Common.{◌≡◌, ℕ, true, false, Bool, nat_eq, ◌&&◌, List, [], ◌∷◌, map, slice_get, Option, Some, unwrap_or, refl, sym, ap, ◌∙◌, cond, true≢false, if◌then◌else◌}
 use Rattle.std.specs.List.{list_any}
-use Rattle.std.specs.Map.{lookup}
+use Rattle.std.specs.Map.{keys_of, lookup, lookup_key}
+use Rattle.std.specs.Option.{option_map}
 use Rattle.std.specs.Cmp.Lexicographic.{same_text}
 use Rattle.std.proofs.lemmas.Cmp.{nat_list_eq_equiv}
 use Rattle.std.proofs.lemmas.Bool.{and_parts, eqb-true, eq-eqb}
+use Rattle.std.proofs.lemmas.Option.{slice_get-map}
 use Rattle.tap_carry.specs.Names.{is_name, is_same, is_same_way, number_of}
 use Rattle.tap_carry.specs.Inbox.{has_pair}
 
@@ -13,6 +15,33 @@ same_name x y e = same_text x y (sym e)
 
 pub name-itself : (x : List ℕ) → is_name x x ≡ true
 name-itself x = nat_list_eq_equiv.refl x
+
+-- the name that is found for a name is that name
+found-name : (numbers : List (List ℕ × ℕ)) (name found : List ℕ) → lookup_key (is_name name) numbers ≡ Some found → found ≡ name
+found-name [] name found e = cc
+found-name (p ∷ numbers) name found e = by (is_name name p.0) refl e (found-name numbers name found)
+  where
+    by : (b : Bool) → is_name name p.0 ≡ b → cond b (Some p.0) (lookup_key (is_name name) numbers) ≡ Some found
+        → (lookup_key (is_name name) numbers ≡ Some found → found ≡ name) → found ≡ name
+    by true is e rest = let first : p.0 ≡ found = cc in sym first ∙ sym (same_name name p.0 is)
+    by false is e rest = rest e
+
+-- so at the place where a name is found stands that name
+pub found-at : (numbers : List (List ℕ × ℕ)) (name found : List ℕ) (at number : ℕ) → lookup_key (is_name name) numbers ≡ Some found
+    → slice_get numbers at ≡ Some (found, number) → slice_get (keys_of numbers) at ≡ Some name
+found-at numbers name found at number key entry =
+    slice_get-map (λ (p : List ℕ × ℕ). p.0) numbers at
+    ∙ ap (option_map (λ (p : List ℕ × ℕ). p.0)) entry
+    ∙ ap Some (found-name numbers name found key)
+
+-- and at the place of a name stands its number
+pub entry-at : (numbers : List (List ℕ × ℕ)) (name found : List ℕ) (at number : ℕ) → slice_get (keys_of numbers) at ≡ Some name
+    → slice_get numbers at ≡ Some (found, number) → slice_get numbers at ≡ Some (name, number)
+entry-at numbers name found at number key entry =
+    let both : Some found ≡ Some name =
+    sym (ap (option_map (λ (p : List ℕ × ℕ). p.0)) entry) ∙ sym (slice_get-map (λ (p : List ℕ × ℕ). p.0) numbers at) ∙ key in
+    let same : found ≡ name = cc in
+    entry ∙ ap (λ (x : List ℕ). Some (x, number)) same
 
 -- what is written at a name is its number, and other names keep theirs
 pub number-updated : (before after : List (List ℕ × ℕ)) (name : List ℕ) (number : ℕ)

@@ -8,7 +8,7 @@ ghost use Rattle.tap_carry.specs.InboxKept.{ArePassed};
 ghost use Rattle.tap_carry.specs.Names.{is_name, number_of};
 
 use crate::memory::NoMemory;
-use crate::numbers::number_in;
+use crate::numbers::{keep, kept_in};
 use indexmap::{IndexMap, IndexSet};
 use std::alloc::Global;
 use std::marker::Model;
@@ -65,14 +65,15 @@ impl Inbox {
         ensures err { OnErr result (self.new ≡ self.old) }
         ensures answered { IsAnswered (result_ok result) self.old self.new from seq }
     {
-        let reached = number_in(&self.reached, &from);
+        let kept = kept_in(&self.reached, &from);
+        let reached = kept.number;
         if seq <= reached {
             return Ok(false);
         }
         if seq > reached + 1 {
             return Ok(self.beyond.insert((from, seq))?);
         }
-        let _ = self.reached.insert(from, seq)?;
+        keep(&mut self.reached, kept.at, from, seq)?;
         let end = pass(&mut self.beyond, from, seq);
         raise(&mut self.reached, from, seq, end);
         Ok(true)

@@ -155,7 +155,8 @@ impl Net {
         ensures err { OnErr result (self.new ≡ self.old) }
     {
         self.room = make_room(&mut self.places, self.room)?;
-        let key = self.packets.insert(packet)?;
+        self.packets.reserve(1)?;
+        let key = self.packets.insert_reserved(packet);
         self.room -= 1;
         Ok(self.ended + self.places.send_reserved(key))
     }
@@ -189,7 +190,8 @@ impl Net {
             return None;
         }
         let flight = self.places.take(place)?;
-        let packet = self.packets.try_remove(flight.record_place)?;
+        let packet = self.packets[flight.record_place];
+        let _ = self.packets.remove(flight.record_place);
         Some(Numbered {
             number: self.ended + flight.number,
             packet,

@@ -1,15 +1,58 @@
-ghost use Rattle.std.specs.Prelude.{◌≡◌, ◌+◌, ◌<◌, ◌^◌, List, ℕ, if◌then◌else◌, IfOk, OnOk, OnErr};
+ghost use Rattle.std.specs.Prelude.{◌≡◌, ◌+◌, ◌<◌, ◌^◌, List, ℕ, if◌then◌else◌, slice_get, Some, IfOk, IfSome, OnOk, OnErr};
+ghost use Rattle.indexmap.specs.IndexMap.{Updates, keys};
 ghost use Rattle.tap_carry.specs.Names.{is_name, number_of};
 
 use crate::memory::NoMemory;
 use indexmap::IndexMap;
 use tap_name::Name;
 
-/// The number that is kept for a name, or 0.
-pub(crate) fn number_in(numbers: &IndexMap<Name, u32>, name: &Name) -> u32
-    ensures { result ≡ number_of numbers.now.entries name.now }
+/// The number of a name, and the place where it is kept.
+#[derive(Clone, Copy)]
+pub(crate) struct Kept {
+    /// The place, if there is one.
+    pub(crate) at: Option<usize>,
+    /// The number, or 0.
+    pub(crate) number: u32,
+}
+
+/// The number that is kept for a name, and where.
+pub(crate) fn kept_in(numbers: &IndexMap<Name, u32>, name: &Name) -> Kept
+    ensures at { IfSome result.at (λ i. slice_get (keys numbers.now) i ≡ Some name.now) }
+    ensures number { result.number ≡ number_of numbers.now.entries name.now }
 {
-    numbers.get(name).copied().unwrap_or(0)
+    match numbers.get_full(name) {
+        Some((at, _, number)) => Kept {
+            at: Some(at),
+            number: *number,
+        },
+        None => Kept {
+            at: None,
+            number: 0,
+        },
+    }
+}
+
+/// Keeps a number for a name, at its place if there is one. A refused call changes nothing.
+pub(crate) fn keep(
+    numbers: &mut IndexMap<Name, u32>,
+    at: Option<usize>,
+    name: Name,
+    number: u32,
+) -> Result<(), NoMemory>
+    requires { IfSome at (λ i. slice_get (keys numbers.old) i ≡ Some name) }
+    ensures updates { OnOk result (Updates is_name numbers.old numbers.new name (Some number)) }
+    ensures err { OnErr result (numbers.new.entries ≡ numbers.old.entries) }
+{
+    match at {
+        Some(at) => {
+            let (_, kept) = numbers.pair_mut(at);
+            *kept = number;
+        }
+        None => {
+            let _ = numbers.insert(name, number)?;
+        }
+    }
+    Ok(())
 }
 
 /// Gives a name the number after its last one, from 1.
@@ -21,10 +64,7 @@ pub(crate) fn next_number(numbers: &mut IndexMap<Name, u32>, name: Name) -> Resu
         (if is_name name x then number_of numbers.old.entries name + 1 else number_of numbers.old.entries x)) }
     ensures err { OnErr result (numbers.new.entries ≡ numbers.old.entries) }
 {
-    if let Some(last) = numbers.get_mut(&name) {
-        *last += 1;
-        return Ok(*last);
-    }
-    let _ = numbers.insert(name, 1)?;
-    Ok(1)
+    let last = numbers.entry(name)?.or_insert(0);
+    *last += 1;
+    Ok(*last)
 }

@@ -10,7 +10,7 @@ was_there : (c : goal.Then-seq-reached) → has_arrived c.args.self.now c.args.f
 was_there c =
     let box : InboxValue = record { reached = c.self.inside.reached.entries; beyond = c.self.inside.beyond.keys } in
     rw (← c.self.view_is)
-    (reached-arrived box c.args.from c.args.seq c.requires (rw (← c.number_in-reached.ensures) c.if-seq-reached.true))
+    (reached-arrived box c.args.from c.args.seq c.requires (rw (← c.kept_in-kept.ensures.number) c.if-seq-reached.true))
 
 pub returns-then-seq-reached-clause-first : goal.returns-then-seq-reached-clause-first
 returns-then-seq-reached-clause-first c = ap not (sym (was_there c))
@@ -26,11 +26,11 @@ updates_of c = pair-updated c.self.inside.beyond.keys c.insert.new.self.keys c.a
 pub invariant_of-self-then-seq-reached-2 : goal.invariant_of-self-then-seq-reached-2
 invariant_of-self-then-seq-reached-2 c =
     gap-beyond c.self.inside.reached.entries c.self.inside.beyond.keys c.insert.new.self.keys c.args.from c.args.seq c.self.invariant
-    (rw (← c.number_in-reached.ensures) c.if-seq-reached-2.true) c.ranges.seq.fits (updates_of c)
+    (rw (← c.kept_in-kept.ensures.number) c.if-seq-reached-2.true) c.ranges.seq.fits (updates_of c)
 
 pub returns-then-seq-reached-2-clause-first : goal.returns-then-seq-reached-2-clause-first
 returns-then-seq-reached-2-clause-first c =
-    let above : number_of c.self.inside.reached.entries c.args.from < c.args.seq = omega (arith, c.number_in-reached.ensures, c.if-seq-reached-2.true) in
+    let above : number_of c.self.inside.reached.entries c.args.from < c.args.seq = omega (arith, c.kept_in-kept.ensures.number, c.if-seq-reached-2.true) in
     let box : InboxValue = record { reached = c.self.inside.reached.entries; beyond = c.self.inside.beyond.keys } in
     rw (← c.self.view_is, beyond-arrived box c.args.from c.args.seq above)
     c.in_ok-insert.ensures.added
@@ -47,7 +47,7 @@ raised_of : (c : goal.After-raise) → (x : List ℕ)
 raised_of c x =
     c.raise.ensures x
     ∙ ap (λ (n : ℕ). if is_name c.args.from x then c.pass-end.result else n)
-    (number-updated c.self.inside.reached.entries c.insert-2.new.self.entries c.args.from c.args.seq c.in_ok-insert-2.ensures.updates.0 x)
+    (number-updated c.self.inside.reached.entries c.keep.new.numbers.entries c.args.from c.args.seq c.in_ok-keep.ensures.updates.0 x)
     ∙ twice (is_name c.args.from x) c.pass-end.result c.args.seq (number_of c.self.inside.reached.entries x)
   where
     twice : (b : Bool) (end seq n : ℕ) → (if b then end else (if b then seq else n)) ≡ (if b then end else n)
@@ -55,7 +55,7 @@ raised_of c x =
     twice false end seq n = refl
 
 next_is : (c : goal.After-raise) → c.args.seq ≡ number_of c.self.inside.reached.entries c.args.from + 1
-next_is c = omega (arith, c.number_in-reached.ensures, c.if-seq-reached.false, c.if-seq-reached-2.false)
+next_is c = omega (arith, c.kept_in-kept.ensures.number, c.if-seq-reached.false, c.if-seq-reached-2.false)
 
 pub invariant_of-self-2 : goal.invariant_of-self-2
 invariant_of-self-2 c =

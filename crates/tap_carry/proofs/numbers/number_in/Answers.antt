@@ -1,5 +1,0 @@
-use Rattle.std.proofs.Common.{ℕ, Option, unwrap_or, ap, ◌∙◌}
-use Rattle.tap_carry.proofs.numbers.number_in.Goals as goal
-
-pub returns : goal.returns
-returns c = c.unwrap_or.ensures ∙ ap (λ (o : Option ℕ). unwrap_or o 0) (c.copied.ensures ∙ c.get.ensures.value)
