@@ -5,7 +5,7 @@ use tap_log::Record;
 use tap_name::Settings;
 
 // A line of each kind, and lines of the greatest numbers.
-const LINES: [&str; 42] = [
+const LINES: [&str; 48] = [
     "begin base 16 digits 2 width 2 frames 7",
     "member 0a",
     "step 1 join 0a via 1b",
@@ -25,7 +25,9 @@ const LINES: [&str; 42] = [
     "table 0a core links 2",
     "table 0a core links 18446744073709551615",
     "link 0 f f1 pin",
+    "link 255 f f1 pin",
     "pointers 0a count 1",
+    "pointers 0a count 18446744073709551615",
     "pointer 0c 0a",
     "refused 1 1 no such node",
     "refused 2 3 departing 0a",
@@ -34,6 +36,9 @@ const LINES: [&str; 42] = [
     "spent 10",
     "done 4",
     "garbled 0 short 3",
+    "garbled 0 short 18446744073709551615",
+    "garbled 0 bad version 255",
+    "garbled 0 bad length 65535",
     "garbled 0 bad length 9",
     "garbled 0 trailing 9",
     "abandoned 0a",
@@ -45,13 +50,14 @@ const LINES: [&str; 42] = [
     "lost 0",
     "rootset 0c from 0a roots 0a 0b 0c 0d",
     "cast 1 hi level 0 from 0a",
+    "cast 1 hi level 255 from 0a",
     "reached 1 0a",
     "closed 1",
     "tapestry: no memory",
 ];
 
 // Texts that are nearly lines.
-const OTHERS: [&str; 24] = [
+const OTHERS: [&str; 31] = [
     "",
     "taken 03",
     "taken ",
@@ -73,6 +79,13 @@ const OTHERS: [&str; 24] = [
     "table 0a core links 18446744073709551616",
     "link 256 f f1 pin",
     "cast 1 Hi level 0 from 0a",
+    "cast 1 hi level 256 from 0a",
+    "garbled 0 bad version 256",
+    "garbled 0 bad kind 256",
+    "garbled 0 bad count 256",
+    "garbled 0 bad length 65536",
+    "garbled 0 short 18446744073709551616",
+    "pointers 0a count 18446744073709551616",
     "step 1 tick",
     "begin base 17 digits 2 width 2 frames 7",
     "tapestry: no memory\n",
