@@ -6,4 +6,5 @@ mod Kept
 mod Letters
 mod Serving
 mod Steps
+mod TakenStays
 mod Ways

@@ -1,6 +1,6 @@
 ghost use Rattle.std.specs.Prelude.{◌≡◌, ◌≢◌, ◌+◌, ◌≤◌, ◌++◌, [], length, IfOk, OnOk};
 ghost use Rattle.tap_name.specs.Name.{IsName};
-ghost use Rattle.tap_rule.specs.Node.{joiner, settings_of};
+ghost use Rattle.tap_rule.specs.Node.{joiner};
 ghost use Rattle.tap_carry.specs.Outbox.{most_frames};
 ghost use Rattle.tap_wire.specs.Reading.{head_of};
 ghost use Rattle.tap_node.specs.Node.{running};

@@ -10,6 +10,7 @@
 mod actor;
 mod host;
 mod intake;
+mod law;
 mod lines;
 mod mail;
 mod memory;
@@ -18,6 +19,7 @@ mod starting;
 mod status;
 
 pub use host::{Going, Host};
+pub use law::taken_stays_law;
 pub use memory::NoMemory;
 pub use run::run_node;
 pub use status::HostStatus;
