@@ -1,6 +1,7 @@
-ghost use Rattle.std.specs.Prelude.{◌≡◌, ◌<◌, length, true};
+ghost use Rattle.std.specs.Prelude.{◌≡◌, ◌<◌, codes, length, true};
 ghost use Rattle.tap_report.specs.Printer.{Prints};
 ghost use Rattle.tap_report.specs.Lookups.{answered_line, asked_line, is_lookup, roots_line, text_of_server, walked_line};
+ghost use Rattle.tap_report.specs.Shapes.{number_after};
 ghost use Rattle.tap_report.specs.Text.{IsPrintable, line_of};
 
 use crate::printer::Printer;
@@ -62,7 +63,19 @@ impl Printer {
         self.add(sink, b" path");
         self.add_names(sink, path);
         self.add_name_after(sink, b" root ", &path[hops]);
-        self.add_number_after(sink, b" hops ", hops);
+        self.add_hops(sink, hops);
+    }
+
+    // Adds how many hops a walk takes.
+    #[inline(always)]
+    fn add_hops<K: Sink>(&mut self, sink: &mut K, hops: usize)
+        ensures { Prints (K.state sink.old) (K.state sink.new)
+            (number_after (codes " hops ") hops) self.old self.new }
+    {
+        match u32::try_from(hops) {
+            Ok(hops) => self.add_u32_after(sink, b" hops ", hops),
+            Err(_) => self.add_number_after(sink, b" hops ", hops),
+        }
     }
 
     fn add_asked<K: Sink>(&mut self, sink: &mut K, ticket: u32, object: &Name, asker: &Name)

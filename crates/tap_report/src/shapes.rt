@@ -1,13 +1,16 @@
-ghost use Rattle.std.specs.Prelude.{◌<◌, ◌≤◌, ◌∷◌, [], ◌++◌, codes, length};
+ghost use Rattle.std.specs.Prelude.{◌<◌, ◌≤◌, ◌+◌, ◌∷◌, [], ◌++◌, codes, length};
 ghost use Rattle.tap_name.specs.Digits.{text_of_digit};
 ghost use Rattle.tap_name.specs.Name.{text_of_name};
-ghost use Rattle.tap_report.specs.Printer.{Prints};
+ghost use Rattle.tap_report.specs.Printer.{Prints, Waits, most_waiting};
 ghost use Rattle.tap_report.specs.Shapes.{name_after, number_after, object_at, object_from, spaced_names, two_names_after, two_numbers_after};
 
 use crate::printer::{MOST_DIGITS, Printer};
 use itoa::{Buffer, Integer};
 use tap_io::Sink;
 use tap_name::{Name, USUAL_DIGITS, text_of_digit};
+
+// The most digits of a name.
+const MOST_OF_NAME: usize = 40;
 
 // The shapes of lines.
 impl Printer {
@@ -37,27 +40,50 @@ impl Printer {
         self.add(sink, digits.format(number).as_bytes());
     }
 
-    // Adds a name, in printed digits.
+    // Adds a name, if there is room for all digits that it may have.
     #[inline(always)]
-    pub(crate) fn add_name<K: Sink>(&mut self, sink: &mut K, name: &Name)
-        ensures { Prints (K.state sink.old) (K.state sink.new)
-            (text_of_name name.now) self.old self.new }
+    fn push_name(&mut self, name: &Name)
+        requires { length self.old.waiting + 40 ≤ most_waiting }
+        ensures text { Waits (text_of_name name.now) self.old self.new }
+        ensures len { length self.new.waiting ≤ length self.old.waiting + 40 }
     {
         if name.len() == USUAL_DIGITS {
-            self.add_digits(sink, &name.usual_digits());
+            self.push_digits(&name.usual_digits());
         } else {
-            self.add_digits(sink, name.digits().as_slice());
+            self.push_unusual_name(name);
         }
+    }
+
+    // The same of a name of any length.
+    #[inline(never)]
+    fn push_unusual_name(&mut self, name: &Name)
+        requires { length self.old.waiting + 40 ≤ most_waiting }
+        ensures text { Waits (text_of_name name.now) self.old self.new }
+        ensures len { length self.new.waiting ≤ length self.old.waiting + 40 }
+    {
+        self.push_digits(name.digits().as_slice());
+    }
+
+    // Adds a word and a name, if there is room for the word and for all digits that the name may have.
+    #[inline(always)]
+    fn push_name_after(&mut self, word: &[u8], name: &Name)
+        requires { length self.old.waiting + length word.now + 40 ≤ most_waiting }
+        ensures text { Waits (name_after word.now name.now) self.old self.new }
+        ensures len { length self.new.waiting ≤ length self.old.waiting + length word.now + 40 }
+    {
+        self.push(word);
+        self.push_name(name);
     }
 
     // Adds a word and a name.
     #[inline(always)]
     pub(crate) fn add_name_after<K: Sink>(&mut self, sink: &mut K, word: &[u8], name: &Name)
+        requires { length word.now ≤ 20 }
         ensures { Prints (K.state sink.old) (K.state sink.new)
             (name_after word.now name.now) self.old self.new }
     {
-        self.add(sink, word);
-        self.add_name(sink, name);
+        self.make_room(sink, word.len() + MOST_OF_NAME);
+        self.push_name_after(word, name);
     }
 
     // Adds a word and a number.
@@ -97,11 +123,14 @@ impl Printer {
         link: &[u8],
         second: &Name,
     )
+        requires word { length word.now ≤ 20 }
+        requires link { length link.now ≤ 20 }
         ensures { Prints (K.state sink.old) (K.state sink.new)
             (two_names_after word.now first.now link.now second.now) self.old self.new }
     {
-        self.add_name_after(sink, word, first);
-        self.add_name_after(sink, link, second);
+        self.make_room(sink, word.len() + link.len() + 2 * MOST_OF_NAME);
+        self.push_name_after(word, first);
+        self.push_name_after(link, second);
     }
 
     // Adds a word and a number, and then another word and number.
@@ -123,7 +152,9 @@ impl Printer {
     }
 
     // Adds a word, an object and the node that has it.
+    #[inline(always)]
     pub(crate) fn add_at<K: Sink>(&mut self, sink: &mut K, word: &[u8], object: &Name, node: &Name)
+        requires { length word.now ≤ 20 }
         ensures { Prints (K.state sink.old) (K.state sink.new)
             (object_at word.now object.now node.now) self.old self.new }
     {
@@ -131,6 +162,7 @@ impl Printer {
     }
 
     // Adds a word, an object and the node that asks for it.
+    #[inline(always)]
     pub(crate) fn add_from<K: Sink>(
         &mut self,
         sink: &mut K,
@@ -138,6 +170,7 @@ impl Printer {
         object: &Name,
         asker: &Name,
     )
+        requires { length word.now ≤ 20 }
         ensures { Prints (K.state sink.old) (K.state sink.new)
             (object_from word.now object.now asker.now) self.old self.new }
     {

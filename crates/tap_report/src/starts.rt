@@ -9,6 +9,9 @@ use tap_io::Sink;
 use tap_name::{Name, Settings};
 use tap_scenario::Step;
 
+// The most bytes of the line of a step before its own words: a word, a number, and a space.
+const MOST_BEFORE_STEP: usize = 16;
+
 // The lines of the beginning of a run and of its steps.
 impl Printer {
     pub(crate) fn add_begin<K: Sink>(&mut self, sink: &mut K, settings: &Settings, frames: u32)
@@ -54,8 +57,10 @@ impl Printer {
         ensures { Prints (K.state sink.old) (K.state sink.new)
             (line (step_line index step.now)) self.old self.new }
     {
-        self.add_u32_after(sink, b"step ", index);
-        self.add(sink, b" ");
+        self.make_room(sink, MOST_BEFORE_STEP);
+        self.push(b"step ");
+        self.push_u32(index);
+        self.push(b" ");
         self.add_step_text(sink, step);
         self.end_line(sink);
     }

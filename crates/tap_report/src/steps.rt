@@ -101,8 +101,7 @@ impl Printer {
         self.add_prefix(sink, prefix);
         self.add(sink, b" ");
         self.add(sink, from.as_bytes());
-        self.add(sink, b" ");
-        self.add_name(sink, asker);
+        self.add_name_after(sink, b" ", asker);
     }
 
     // Adds a word with a space before it.
