@@ -3,6 +3,7 @@ mod PrintsLemmas
 pub mod DecimalLemmas
 pub mod TextLemmas
 mod HeadLemmas
+mod PairsLemmas
 mod DepartedLemmas
 mod TallyLemmas
 pub mod ReportsLemmas

@@ -11,6 +11,7 @@ mod lines;
 mod lookups;
 mod mode;
 mod opening;
+mod pairs;
 mod printer;
 mod refusals;
 mod reporter;

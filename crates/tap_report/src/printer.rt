@@ -3,10 +3,11 @@ ghost use Rattle.hex.specs.Hex.{encode_lower};
 ghost use Rattle.tap_name.specs.Name.{text_of_name};
 ghost use Rattle.tap_report.specs.Printer.{Prints, Waits, emptied, most_waiting, new_printer};
 
+use crate::pairs::print_usual;
 use crate::written::{Written, write_text};
 use std::marker::Model;
 use tap_io::Sink;
-use tap_name::{USUAL_DIGITS, text_of_digit};
+use tap_name::{Name, USUAL_DIGITS, text_of_digit};
 
 // How many bytes may wait.
 const ROOM: usize = 2048;
@@ -153,6 +154,19 @@ impl Printer {
     {
         let end = self.len + digits.len();
         print_digits(digits, &mut self.room[self.len..end]);
+        self.len = end;
+    }
+
+    // Adds a name of the usual length, for which there is room.
+    #[inline(always)]
+    pub(crate) fn push_usual_name(&mut self, name: &Name)
+        requires usual { length name.now ≡ 8 }
+        requires room { length self.old.waiting + 8 ≤ most_waiting }
+        ensures text { Waits (text_of_name name.now) self.old self.new }
+        ensures len { length self.new.waiting ≡ length self.old.waiting + 8 }
+    {
+        let end = self.len + USUAL_DIGITS;
+        print_usual(name, &mut self.room[self.len..end]);
         self.len = end;
     }
 

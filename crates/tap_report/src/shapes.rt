@@ -48,7 +48,7 @@ impl Printer {
         ensures len { length self.new.waiting ≤ length self.old.waiting + 40 }
     {
         if name.len() == USUAL_DIGITS {
-            self.push_digits(&name.usual_digits());
+            self.push_usual_name(name);
         } else {
             self.push_unusual_name(name);
         }
