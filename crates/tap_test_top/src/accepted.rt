@@ -1,5 +1,7 @@
-use crate::outcome::{PRINTED, run_text, run_words, with_line};
-use std::test::Fail;
+use crate::outcome::{NONE, PRINTED, check_run, end_of, ended_by, with_line};
+use std::alloc::Global;
+use std::process::Abort;
+use tap_io::{MemorySink, MemorySource};
 use tap_top::Status;
 
 // What is printed of a join, and of the two tables after it.
@@ -42,110 +44,148 @@ step 2 settle
 spent 1
 ";
 
-#[test]
-fn accepted_texts_run_to_their_end(rt: HostRuntime) -> Result<(), Fail> {
-    let alloc = rt.alloc();
-    let cases = [
-        (
-            "base = 4\ndigits = 3\nwidth = 2\nmembers = [\"000\", \"012\"]\nsteps = [\"walk 333 from 012\"]\n",
-            "begin base 4 digits 3 width 2 frames 200000\nmember 000\nmember 012\nstep 1 walk 333 from 012\nwalked 333 from 012 path 012 000 root 000 hops 1\ndone 1\n",
-            "begin base 4 digits 3 width 2 frames 200000\nwalked 333 from 012 path 012 000 root 000 hops 1\ndone 1\n",
-        ),
-        (
-            "base = 16\ndigits = 4\nwidth = 2\nmembers = [\"beef\"]\nsteps = [\"walk 0000 from beef\"]\n",
-            "begin base 16 digits 4 width 2 frames 200000\nmember beef\nstep 1 walk 0000 from beef\nwalked 0000 from beef path beef root beef hops 0\ndone 1\n",
-            "begin base 16 digits 4 width 2 frames 200000\nwalked 0000 from beef path beef root beef hops 0\ndone 1\n",
-        ),
-        (
-            "base = 2\ndigits = 1\nwidth = 1\nmembers = [\"0\", \"1\"]\nsteps = [\"walk 1 from 0\", \"root 0\"]\n",
-            "begin base 2 digits 1 width 1 frames 200000\nmember 0\nmember 1\nstep 1 walk 1 from 0\nwalked 1 from 0 path 0 1 root 1 hops 1\nstep 2 root 0\nrooted 0 at 0\ndone 2\n",
-            "begin base 2 digits 1 width 1 frames 200000\nwalked 1 from 0 path 0 1 root 1 hops 1\nrooted 0 at 0\ndone 2\n",
-        ),
-        (
-            "base = 16\ndigits = 8\nwidth = 2\nmembers = [\"89abcdee\", \"89abcdef\"]\nsteps = [\"walk 00000000 from 89abcdef\"]\n",
-            "begin base 16 digits 8 width 2 frames 200000\nmember 89abcdee\nmember 89abcdef\nstep 1 walk 00000000 from 89abcdef\nwalked 00000000 from 89abcdef path 89abcdef 89abcdee root 89abcdee hops 1\ndone 1\n",
-            "begin base 16 digits 8 width 2 frames 200000\nwalked 00000000 from 89abcdef path 89abcdef 89abcdee root 89abcdee hops 1\ndone 1\n",
-        ),
-        (
-            "base = 4\ndigits = 3\nwidth = 2\nmembers = [\"000\"]\nsteps = []\n",
-            "begin base 4 digits 3 width 2 frames 200000\nmember 000\ndone 0\n",
-            "begin base 4 digits 3 width 2 frames 200000\ndone 0\n",
-        ),
-        (
-            "base = 4\ndigits = 3\nwidth = 2\nmembers = [\"000\", \"012\"]\nsteps = [\"walk 123 from 111\", \"root 123\"]\n",
-            "begin base 4 digits 3 width 2 frames 200000\nmember 000\nmember 012\nstep 1 walk 123 from 111\nrefused 1 1 no such node\nstep 2 root 123\nrooted 123 at 000\ndone 2\n",
-            "begin base 4 digits 3 width 2 frames 200000\nrefused 1 1 no such node\nrooted 123 at 000\ndone 2\n",
-        ),
-        (
-            "base = 4\ndigits = 3\nwidth = 2\nmembers = [\"000\", \"012\", \"230\", \"233\", \"301\"]\nsteps = [\"table 000\"]\n",
-            "begin base 4 digits 3 width 2 frames 200000\nmember 000\nmember 012\nmember 230\nmember 233\nmember 301\nstep 1 table 000\ntable 000 core links 4\nlink 0 2 230 settled\nlink 0 2 233 settled\nlink 0 3 301 settled\nlink 1 1 012 settled\ndone 1\n",
-            "begin base 4 digits 3 width 2 frames 200000\ntable 000 core links 4\nlink 0 2 230 settled\nlink 0 2 233 settled\nlink 0 3 301 settled\nlink 1 1 012 settled\ndone 1\n",
-        ),
-    ];
-    for (text, printed, brief) in cases.iter() {
-        let outcome = run_text(alloc, text.as_bytes(), &[], &[])?;
-        assert_eq!(rt; outcome.status, Status::Done, "{text}");
-        assert_eq!(rt; outcome.written.as_slice(), printed.as_bytes(), "{text}");
-        let in_brief = run_words(alloc, &["--brief"], text.as_bytes(), &[], &[])?;
-        assert_eq!(rt; in_brief.written.as_slice(), brief.as_bytes(), "{text}");
-    }
-    Ok(())
+// A text, how many records its run has, what it prints, and what it prints in brief.
+type Accepted = (usize, &'static str, &'static str, &'static str);
+
+const ACCEPTED: [Accepted; 7] = [
+    (
+        4,
+        "base = 4\ndigits = 3\nwidth = 2\nmembers = [\"000\", \"012\"]\nsteps = [\"walk 333 from 012\"]\n",
+        "begin base 4 digits 3 width 2 frames 200000\nmember 000\nmember 012\nstep 1 walk 333 from 012\nwalked 333 from 012 path 012 000 root 000 hops 1\ndone 1\n",
+        "begin base 4 digits 3 width 2 frames 200000\nwalked 333 from 012 path 012 000 root 000 hops 1\ndone 1\n",
+    ),
+    (
+        4,
+        "base = 16\ndigits = 4\nwidth = 2\nmembers = [\"beef\"]\nsteps = [\"walk 0000 from beef\"]\n",
+        "begin base 16 digits 4 width 2 frames 200000\nmember beef\nstep 1 walk 0000 from beef\nwalked 0000 from beef path beef root beef hops 0\ndone 1\n",
+        "begin base 16 digits 4 width 2 frames 200000\nwalked 0000 from beef path beef root beef hops 0\ndone 1\n",
+    ),
+    (
+        6,
+        "base = 2\ndigits = 1\nwidth = 1\nmembers = [\"0\", \"1\"]\nsteps = [\"walk 1 from 0\", \"root 0\"]\n",
+        "begin base 2 digits 1 width 1 frames 200000\nmember 0\nmember 1\nstep 1 walk 1 from 0\nwalked 1 from 0 path 0 1 root 1 hops 1\nstep 2 root 0\nrooted 0 at 0\ndone 2\n",
+        "begin base 2 digits 1 width 1 frames 200000\nwalked 1 from 0 path 0 1 root 1 hops 1\nrooted 0 at 0\ndone 2\n",
+    ),
+    (
+        4,
+        "base = 16\ndigits = 8\nwidth = 2\nmembers = [\"89abcdee\", \"89abcdef\"]\nsteps = [\"walk 00000000 from 89abcdef\"]\n",
+        "begin base 16 digits 8 width 2 frames 200000\nmember 89abcdee\nmember 89abcdef\nstep 1 walk 00000000 from 89abcdef\nwalked 00000000 from 89abcdef path 89abcdef 89abcdee root 89abcdee hops 1\ndone 1\n",
+        "begin base 16 digits 8 width 2 frames 200000\nwalked 00000000 from 89abcdef path 89abcdef 89abcdee root 89abcdee hops 1\ndone 1\n",
+    ),
+    (
+        2,
+        "base = 4\ndigits = 3\nwidth = 2\nmembers = [\"000\"]\nsteps = []\n",
+        "begin base 4 digits 3 width 2 frames 200000\nmember 000\ndone 0\n",
+        "begin base 4 digits 3 width 2 frames 200000\ndone 0\n",
+    ),
+    (
+        6,
+        "base = 4\ndigits = 3\nwidth = 2\nmembers = [\"000\", \"012\"]\nsteps = [\"walk 123 from 111\", \"root 123\"]\n",
+        "begin base 4 digits 3 width 2 frames 200000\nmember 000\nmember 012\nstep 1 walk 123 from 111\nrefused 1 1 no such node\nstep 2 root 123\nrooted 123 at 000\ndone 2\n",
+        "begin base 4 digits 3 width 2 frames 200000\nrefused 1 1 no such node\nrooted 123 at 000\ndone 2\n",
+    ),
+    (
+        4,
+        "base = 4\ndigits = 3\nwidth = 2\nmembers = [\"000\", \"012\", \"230\", \"233\", \"301\"]\nsteps = [\"table 000\"]\n",
+        "begin base 4 digits 3 width 2 frames 200000\nmember 000\nmember 012\nmember 230\nmember 233\nmember 301\nstep 1 table 000\ntable 000 core links 4\nlink 0 2 230 settled\nlink 0 2 233 settled\nlink 0 3 301 settled\nlink 1 1 012 settled\ndone 1\n",
+        "begin base 4 digits 3 width 2 frames 200000\ntable 000 core links 4\nlink 0 2 230 settled\nlink 0 2 233 settled\nlink 0 3 301 settled\nlink 1 1 012 settled\ndone 1\n",
+    ),
+];
+
+// The same scenario by other spellings of its base.
+const FOURS: [&str; 3] = ["base = 4", "base = 0x4", "base = 0b100 # four"];
+
+const JOIN: &str =
+    "base = 2\ndigits = 2\nwidth = 1\nmembers = [\"00\"]\nsteps = [\"join 01 via 00\", \"settle\", \"table 00\", \"table 01\"]\n";
+
+const JOIN_OF_ONE_FRAME: &str =
+    "base = 2\ndigits = 2\nwidth = 1\nframes = 1\nmembers = [\"00\"]\nsteps = [\"join 01 via 00\", \"settle\", \"table 00\", \"table 01\"]\n";
+
+// A run of this text with these words is done.
+fn check_done(
+    rt: &impl Abort,
+    alloc: Global,
+    words: &[&str],
+    text: &str,
+    records: usize,
+    printed: &str,
+) {
+    check_run(
+        rt,
+        alloc,
+        words,
+        text.as_bytes(),
+        NONE,
+        ended_by(Status::Done, records),
+        printed.as_bytes(),
+    );
 }
 
 #[test]
-fn a_walk_over_five_members(rt: HostRuntime) -> Result<(), Fail> {
-    let alloc = rt.alloc();
-    for line in ["base = 4", "base = 0x4", "base = 0b100 # four"] {
-        let text = with_line(alloc, 0, line)?;
-        let outcome = run_text(alloc, text.as_bytes(), &[], &[])?;
-        assert_eq!(rt; outcome.status, Status::Done, "{line}");
-        assert_eq!(rt; outcome.before, Status::Done, "{line}");
-        assert_eq!(rt; outcome.written.as_slice(), PRINTED.as_bytes(), "{line}");
-        assert_eq!(rt; outcome.records, 4);
+fn accepted_texts_run_to_their_end(rt: HostRuntime) {
+    for (records, text, printed, brief) in ACCEPTED.iter() {
+        check_done(&rt, rt.alloc(), &[], text, *records, printed);
+        check_done(&rt, rt.alloc(), &["--brief"], text, *records, brief);
     }
-    Ok(())
+}
+
+// With this line in place of the first one, the walk over five members is the same.
+fn check_first_line(rt: &impl Abort, alloc: Global, line: &str) {
+    let text = with_line(rt, alloc, 0, line);
+    check_done(rt, alloc, &[], text.as_str(), 4, PRINTED);
+}
+
+#[test]
+fn a_walk_over_five_members(rt: HostRuntime) {
+    for line in FOURS.iter() {
+        check_first_line(&rt, rt.alloc(), line);
+    }
 }
 
 // A newcomer joins: each frame is printed as it is sent and taken.
 #[test]
-fn a_newcomer_joins(rt: HostRuntime) -> Result<(), Fail> {
-    let text =
-        "base = 2\ndigits = 2\nwidth = 1\nmembers = [\"00\"]\nsteps = [\"join 01 via 00\", \"settle\", \"table 00\", \"table 01\"]\n";
-    let outcome = run_text(rt.alloc(), text.as_bytes(), &[], &[])?;
-    assert_eq!(rt; outcome.status, Status::Done);
-    assert_eq!(rt; outcome.written.as_slice(), JOINED.as_bytes());
-    assert_eq!(rt; outcome.records, 25);
-    Ok(())
+fn a_newcomer_joins(rt: HostRuntime) {
+    check_done(&rt, rt.alloc(), &[], JOIN, 25, JOINED);
 }
 
 // With a limit of one frame the next step of a node would send a second one.
 #[test]
-fn a_run_is_spent(rt: HostRuntime) -> Result<(), Fail> {
-    let text =
-        "base = 2\ndigits = 2\nwidth = 1\nframes = 1\nmembers = [\"00\"]\nsteps = [\"join 01 via 00\", \"settle\", \"table 00\", \"table 01\"]\n";
-    let outcome = run_text(rt.alloc(), text.as_bytes(), &[], &[])?;
-    assert_eq!(rt; outcome.status, Status::Spent);
-    assert_eq!(rt; outcome.before, Status::Spent);
-    assert_eq!(rt; outcome.written.as_slice(), SPENT.as_bytes());
-    assert_eq!(rt; outcome.records, 5);
-    Ok(())
+fn a_run_is_spent(rt: HostRuntime) {
+    check_run(
+        &rt,
+        rt.alloc(),
+        &[],
+        JOIN_OF_ONE_FRAME.as_bytes(),
+        NONE,
+        ended_by(Status::Spent, 5),
+        SPENT.as_bytes(),
+    );
 }
 
-// A scenario that is made is printed as its summary, and the source isn't touched: its first read would fail.
+// A scenario that is made by these words is done, and prints this. The source isn't touched: its first read would fail.
+fn check_made(rt: &impl Abort, alloc: Global, words: &[&str], text: &[u8], printed: &[u8]) {
+    let mut source = MemorySource::new(alloc, text, 16, &[1]).expect(rt, "memory");
+    let mut sink = MemorySink::new(alloc, 10, 65536, &[]).expect(rt, "memory");
+    let ended = end_of(rt, alloc, words, &mut source, &mut sink);
+    assert!(rt; ended.status == Status::Done);
+    assert!(rt; sink.bytes() == printed);
+}
+
+// A scenario that is made is printed as its summary. Without a seed it is 1.
 #[test]
-fn a_scenario_is_made(rt: HostRuntime) -> Result<(), Fail> {
-    let words = ["--make", "1", "--seed", "2"];
-    let outcome = run_words(rt.alloc(), &words, b"no scenario".as_slice(), &[1], &[])?;
-    assert_eq!(rt; outcome.status, Status::Done);
-    assert_eq!(rt;
-        outcome.written.as_slice(),
-        b"nodes 28\nframes 137\nhops 2\nanswered 30\n".as_slice()
+fn a_scenario_is_made(rt: HostRuntime) {
+    check_made(
+        &rt,
+        rt.alloc(),
+        &["--make", "1", "--seed", "2"],
+        b"no scenario",
+        b"nodes 28\nframes 137\nhops 2\nanswered 30\n",
     );
-    // Without a seed it is 1.
-    let outcome = run_words(rt.alloc(), &["--make", "1"], b"".as_slice(), &[1], &[])?;
-    assert_eq!(rt;
-        outcome.written.as_slice(),
-        b"nodes 28\nframes 131\nhops 2\nanswered 30\n".as_slice()
+    check_made(
+        &rt,
+        rt.alloc(),
+        &["--make", "1"],
+        b"",
+        b"nodes 28\nframes 131\nhops 2\nanswered 30\n",
     );
-    Ok(())
 }

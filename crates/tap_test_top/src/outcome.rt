@@ -1,6 +1,6 @@
-use std::alloc::{AllocError, Global};
-use std::test::Fail;
-use tap_io::{MemorySink, MemorySource};
+use std::alloc::Global;
+use std::process::Abort;
+use tap_io::{MemorySink, MemorySource, Sink, Source};
 use tap_top::{Ended, Status, run};
 
 /// A scenario of one walk over five members, line by line.
@@ -24,64 +24,71 @@ walked 123 from 000 path 000 230 233 root 233 hops 2
 done 1
 ";
 
-/// The text of that scenario with another line at a place, or as it is if the place is after the last line.
-pub(crate) fn with_line(alloc: Global, place: usize, line: &str) -> Result<String, AllocError> {
-    let mut text = String::new(alloc);
-    for (i, own) in LINES.iter().enumerate() {
-        text.push_str(if i == place { line } else { own })?;
-        text.push_str("\n")?;
-    }
-    Ok(text)
+/// The calls of a source and of a sink that fail, by their numbers, from 1.
+#[derive(Clone, Copy)]
+pub(crate) struct Failing {
+    pub(crate) read: u32,
+    pub(crate) write: u32,
 }
 
-/// What a run left: how it ended, with regard to writing and without, how many records the log of its world has, none if no
-/// world is left, and the bytes that it wrote.
-#[derive(Drop)]
-pub(crate) struct Outcome {
+/// No call fails.
+pub(crate) const NONE: Failing = Failing { read: 0, write: 0 };
+
+/// The first read fails.
+pub(crate) const FIRST_READ: Failing = Failing { read: 1, write: 0 };
+
+/// How a run ends, with regard to writing and without, and how many records the log of its world has, none if no world is left.
+#[derive(Clone, Copy)]
+pub(crate) struct Ending {
     pub(crate) status: Status,
     pub(crate) before: Status,
     pub(crate) records: usize,
-    pub(crate) written: Vec<u8>,
 }
 
-/// Runs a text with no word, read in pieces of 16 bytes and written in pieces of 10. The calls with these numbers fail.
-pub(crate) fn run_text(
-    alloc: Global,
-    text: &[u8],
-    read_fails: &[u32],
-    write_fails: &[u32],
-) -> Result<Outcome, Fail> {
-    run_words(alloc, &[], text, read_fails, write_fails)
+/// A run ends so whose writing doesn't fail.
+pub(crate) fn ended_by(status: Status, records: usize) -> Ending {
+    Ending {
+        status,
+        before: status,
+        records,
+    }
 }
 
-/// The same, with these words.
-pub(crate) fn run_words(
-    alloc: Global,
-    words: &[&str],
-    text: &[u8],
-    read_fails: &[u32],
-    write_fails: &[u32],
-) -> Result<Outcome, Fail> {
-    let mut source = MemorySource::new(alloc, text, 16, read_fails).map_err(|_| "no memory")?;
-    let mut sink = MemorySink::new(alloc, 10, 65536, write_fails).map_err(|_| "no memory")?;
-    let words = owned(alloc, words)?;
-    let ended = run(alloc, &words, &mut source, &mut sink);
-    let written = Vec::from_slice(alloc, sink.bytes())?;
-    Ok(Outcome {
-        status: ended.status,
-        before: ended.before,
-        records: record_count(&ended),
-        written,
-    })
+/// Adds a line.
+pub(crate) fn push_line(rt: &impl Abort, text: &mut String, line: &str) {
+    text.push_str(line).expect(rt, "memory");
+    text.push_str("\n").expect(rt, "memory");
+}
+
+/// The text of that scenario with another line at a place, or as it is if the place is after the last line.
+pub(crate) fn with_line(rt: &impl Abort, alloc: Global, place: usize, line: &str) -> String {
+    let mut text = String::new(alloc);
+    for (i, own) in LINES.iter().enumerate() {
+        push_line(rt, &mut text, if i == place { line } else { own });
+    }
+    text
 }
 
 // These words, as a command line has them.
-fn owned(alloc: Global, words: &[&str]) -> Result<Vec<String>, Fail> {
+fn owned(rt: &impl Abort, alloc: Global, words: &[&str]) -> Vec<String> {
     let mut texts = Vec::new(alloc);
     for word in words {
-        texts.push(String::from_str(alloc, word)?)?;
+        let text = String::from_str(alloc, word).expect(rt, "memory");
+        texts.push(text).expect(rt, "memory");
     }
-    Ok(texts)
+    texts
+}
+
+/// What a run with these words leaves.
+pub(crate) fn end_of<S: Source, K: Sink>(
+    rt: &impl Abort,
+    alloc: Global,
+    words: &[&str],
+    source: &mut S,
+    sink: &mut K,
+) -> Ended {
+    let words = owned(rt, alloc, words);
+    run(alloc, &words, source, sink)
 }
 
 // How many records the log of the world that is left has; none if no world is.
@@ -90,4 +97,28 @@ fn record_count(ended: &Ended) -> usize {
         Some(world) => world.log().len(),
         None => 0,
     }
+}
+
+// Checks how a run has ended.
+fn check_ending(rt: &impl Abort, ended: &Ended, ending: Ending) {
+    assert!(rt; ended.status == ending.status);
+    assert!(rt; ended.before == ending.before);
+    assert!(rt; record_count(ended) == ending.records);
+}
+
+/// A run with these words over this text ends so, and writes this. It is read in pieces of 16 bytes and written in pieces of 10.
+pub(crate) fn check_run(
+    rt: &impl Abort,
+    alloc: Global,
+    words: &[&str],
+    text: &[u8],
+    failing: Failing,
+    ending: Ending,
+    written: &[u8],
+) {
+    let mut source = MemorySource::new(alloc, text, 16, &[failing.read]).expect(rt, "memory");
+    let mut sink = MemorySink::new(alloc, 10, 65536, &[failing.write]).expect(rt, "memory");
+    let ended = end_of(rt, alloc, words, &mut source, &mut sink);
+    check_ending(rt, &ended, ending);
+    assert!(rt; sink.bytes() == written);
 }

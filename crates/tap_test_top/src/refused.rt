@@ -1,5 +1,6 @@
-use crate::outcome::{run_text, with_line};
-use std::test::Fail;
+use crate::outcome::{NONE, check_run, ended_by, with_line};
+use std::alloc::Global;
+use std::process::Abort;
 use tap_scenario::{Fault, Key};
 use tap_top::Status;
 
@@ -97,56 +98,69 @@ const REFUSED: [Refused; 18] = [
     ),
 ];
 
-#[test]
-fn each_refused_text_has_its_fault(rt: HostRuntime) -> Result<(), Fail> {
-    let alloc = rt.alloc();
-    for (place, line, fault, told) in REFUSED.iter() {
-        let text = with_line(alloc, *place, line)?;
-        let outcome = run_text(alloc, text.as_bytes(), &[], &[])?;
-        let printed = format!(in alloc; "tapestry: not a scenario: {told}\n")?;
-        assert_eq!(rt; outcome.status, Status::NotScenario(*fault), "{line}");
-        assert_eq!(rt; outcome.written.as_slice(), printed.as_bytes(), "{line}");
-        assert_eq!(rt; outcome.records, 0, "{line}");
-    }
-    Ok(())
+// Texts that are no scenario, the fault, and what is printed of it.
+const NO_SCENARIOS: [(&[u8], Fault, &str); 3] = [
+    (&[], Fault::BadKey(Key::Base), "bad key base"),
+    (&[0xc3], Fault::NotUtf8, "not UTF-8"),
+    (b"base = ", Fault::NotToml, "not TOML"),
+];
+
+// Checks that a text is refused with this status, and what is printed of it.
+fn check_refused(rt: &impl Abort, alloc: Global, text: &[u8], status: Status, printed: &[u8]) {
+    check_run(rt, alloc, &[], text, NONE, ended_by(status, 0), printed);
+}
+
+// The fault line of a text that is no scenario.
+fn line_of(rt: &impl Abort, alloc: Global, told: &str) -> String {
+    let mut line = String::from_str(alloc, "tapestry: not a scenario: ").expect(rt, "memory");
+    line.push_str(told).expect(rt, "memory");
+    line.push_str("\n").expect(rt, "memory");
+    line
+}
+
+// Checks that a text has this fault.
+fn check_fault(rt: &impl Abort, alloc: Global, text: &[u8], fault: Fault, told: &str) {
+    let line = line_of(rt, alloc, told);
+    check_refused(rt, alloc, text, Status::NotScenario(fault), line.as_bytes());
+}
+
+// Checks that the scenario with another line at a place has this fault.
+fn check_line(rt: &impl Abort, alloc: Global, place: usize, line: &str, fault: Fault, told: &str) {
+    let text = with_line(rt, alloc, place, line);
+    check_fault(rt, alloc, text.as_bytes(), fault, told);
 }
 
 #[test]
-fn texts_that_are_none(rt: HostRuntime) -> Result<(), Fail> {
-    let alloc = rt.alloc();
-    let long = vec![in alloc; b'#'; 1_048_577]?;
-    let fits = vec![in alloc; b'#'; 1_048_576]?;
-    let cases = [
-        (
-            [].as_slice(),
-            Status::NotScenario(Fault::BadKey(Key::Base)),
-            "tapestry: not a scenario: bad key base\n",
-        ),
-        (
-            [0xc3].as_slice(),
-            Status::NotScenario(Fault::NotUtf8),
-            "tapestry: not a scenario: not UTF-8\n",
-        ),
-        (
-            b"base = ".as_slice(),
-            Status::NotScenario(Fault::NotToml),
-            "tapestry: not a scenario: not TOML\n",
-        ),
-        (
-            long.as_slice(),
-            Status::TooLong,
-            "tapestry: text too long\n",
-        ),
-        (
-            fits.as_slice(),
-            Status::NotScenario(Fault::BadKey(Key::Base)),
-            "tapestry: not a scenario: bad key base\n",
-        ),
-    ];
-    for (text, status, printed) in cases.iter() {
-        let outcome = run_text(alloc, text, &[], &[])?;
-        assert_eq!(rt; outcome.status, *status, "{printed}");
-        assert_eq!(rt; outcome.written.as_slice(), printed.as_bytes(), "{printed}");
+fn each_refused_text_has_its_fault(rt: HostRuntime) {
+    for (place, line, fault, told) in REFUSED.iter() {
+        check_line(&rt, rt.alloc(), *place, line, *fault, told);
     }
-    Ok(())
+}
+
+#[test]
+fn texts_that_are_none(rt: HostRuntime) {
+    for (text, fault, told) in NO_SCENARIOS.iter() {
+        check_fault(&rt, rt.alloc(), text, *fault, told);
+    }
+}
+
+// A text of the greatest length that is read has no key, and one of a byte more is too long.
+#[test]
+fn a_text_is_too_long(rt: HostRuntime) {
+    let fits = vec![in rt.alloc(); b'#'; 1_048_576].expect(&rt, "memory");
+    check_fault(
+        &rt,
+        rt.alloc(),
+        &fits,
+        Fault::BadKey(Key::Base),
+        "bad key base",
+    );
+    let long = vec![in rt.alloc(); b'#'; 1_048_577].expect(&rt, "memory");
+    check_refused(
+        &rt,
+        rt.alloc(),
+        &long,
+        Status::TooLong,
+        b"tapestry: text too long\n",
+    );
 }
