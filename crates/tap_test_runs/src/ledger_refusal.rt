@@ -1,6 +1,6 @@
 // Why steps are refused: of several causes the first one counts.
 use crate::ledger::{add, add_sent, add_step, begun, name_in};
-use crate::names::{check_so, settings_of, step_of};
+use crate::names::{settings_of, step_of};
 use std::alloc::Global;
 use std::process::Abort;
 use tap_ledger::Ledger;
@@ -53,7 +53,7 @@ const FULL: [Case; 2] = [
 fn check(rt: &impl Abort, alloc: Global, ledger: &Ledger, text: &str, want: Option<Refusal>) {
     let step = step_of(rt, &ledger.settings(), text);
     let refusal = ledger.refusal(alloc, &step).expect(rt, "memory");
-    check_so(rt, refusal == want, text);
+    assert!(rt; refusal == want, "{text}");
 }
 
 fn check_all(rt: &impl Abort, alloc: Global, ledger: &Ledger, cases: &[Case]) {

@@ -28,8 +28,3 @@ pub(crate) fn step_of(rt: &impl Abort, settings: &Settings, text: &str) -> Step
 {
     read_step(settings, false, text.as_bytes()).expect(rt, "a step")
 }
-
-// Stops with this text unless it is so.
-pub(crate) fn check_so(rt: &impl Abort, is_so: bool, text: &str) {
-    is_so.then_some(()).expect(rt, text);
-}
