@@ -19,6 +19,7 @@ DEFAULT = os.path.join(TOP, "crates", "tapestry", "out", "tapestry")
 SECONDS = 120
 DIGITS = "0123456789abcdef"
 MOST_STEPS, MOST_NAMES, MOST_MEMBERS = 10_000, 256, 64
+KEYS = ["base", "digits", "width", "frames", "carrier", "members", "steps"]
 # Each kind of step: its forms, in which capital letters stand for names and numbers as in docs/FORMATS.md.
 FORMS = {
     "walk": ["walk O from A"], "root": ["root O"], "table": ["table A"], "join": ["join N via G"], "leave": ["leave N"],
@@ -217,14 +218,19 @@ class Scenario:
 
 
 def read_scenario(path):
-    """The scenario of a file. Only its keys are looked at: the program says what is wrong with the values."""
+    """The scenario of a file. Its keys and the kinds of their values are looked at: the program says what else is wrong."""
     text = contents(path)
     try:
         table = toml_places.read(text)
+        unknown = [(toml_places.shown(key), node.at) for key, node in table.items() if key not in KEYS]
+        if unknown:
+            raise toml_places.Wrong(unknown[0][1], f"a scenario has no key {unknown[0][0]}; it has {', '.join(KEYS)}")
         values = {key: node.value().data for key, node in table.items()}
         lists = {key: [item.data for item in values[key]] for key in ("members", "steps")}
-        numbers = {key: int(values[key]) for key in ("base", "digits", "width")}
-        frames = int(values["frames"]) if "frames" in values else None
+        numbers = {key: values[key] for key in ("base", "digits", "width", "frames") if key in values or key != "frames"}
+        carrier = values.get("carrier", False)
+        if not all(type(number) is int for number in numbers.values()) or not isinstance(carrier, bool):
+            raise TypeError
     except toml_places.Wrong as wrong:
         line, column = toml_places.place(text, wrong.at)
         raise Wrong(f"{path}: line {line}, column {column}: {wrong.why}") from None
@@ -232,7 +238,7 @@ def read_scenario(path):
         raise Wrong(f"{path}: this is no scenario (docs/FORMATS.md): ./run says what is wrong with it") from None
     if not all(isinstance(item, str) for items in lists.values() for item in items):
         raise Wrong(f"{path}: members and steps are strings")
-    return Scenario(**numbers, **lists, frames=frames, carrier=values.get("carrier") is True)
+    return Scenario(**numbers, **lists, carrier=carrier)
 
 
 def form_of(step):
