@@ -107,6 +107,14 @@ class Progress:
         self.is_shown = on_terminal
         print(f"{self.name}: {how_far()}", end="\x1b[K\r" if on_terminal else "\n", file=sys.stderr, flush=True)
 
+    def watch(self, child, how_far):
+        """What a process prints, on standard output and on standard error; how far is said until it ends."""
+        while True:
+            try:
+                return child.communicate(timeout=0.5)
+            except subprocess.TimeoutExpired:
+                self.show(how_far)
+
     def end(self):
         if self.is_shown:
             print("\x1b[K", end="\r", file=sys.stderr, flush=True)
