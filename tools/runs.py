@@ -63,8 +63,10 @@ class Wrong(Exception):
 def call(name, main):
     """Runs the main function of a tool, says what is wrong, and ends with its status."""
     try:
-        status = main()
-        sys.stdout.flush()
+        try:
+            status = main()
+        finally:
+            sys.stdout.flush()
     except Wrong as wrong:
         print(f"{name}: {wrong}", file=sys.stderr)
         status = wrong.status
