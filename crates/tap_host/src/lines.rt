@@ -12,7 +12,7 @@ use tap_io::{Got, Source};
 const MOST_LINE: usize = 32_768;
 
 // The most bytes that one read gives.
-const PIECE: usize = 16_384;
+const PIECE: usize = 4_096;
 
 // What was read, and no line was taken of yet, and room for the next piece. Contracts see the bytes.
 #[derive(Drop)]
