@@ -1,17 +1,15 @@
 -- Once how a carried run has ended stands after its log, this and its reduced log say the same still.
-use Rattle.std.proofs.Common.{◌≡◌, ◌⊎◌, inl, inr, ℕ, ◌≤◌, Bool, true, false, not, cond, List, [], ◌∷◌, ◌++◌, length, filter, All, Option, None, Some, refl, ap, sym, ◌∙◌, arith, append-nil, append_assoc}
+use Rattle.std.proofs.Common.{◌≡◌, ◌⊎◌, inl, inr, ℕ, Bool, true, false, List, [], ◌∷◌, ◌++◌, filter, All, Option, None, refl, ap, sym, ◌∙◌, append-nil, append_assoc}
 use Rattle.std.specs.Prelude.{if◌then◌else◌}
 use Rattle.std.specs.List.{cons_option, filter_map, last_or}
 use Rattle.std.proofs.lemmas.List.{append_cancel_left}
 use Rattle.std.proofs.lemmas.List.Elements.{All-append, All-cons, All-nil, filter_map-append}
-use Rattle.tap_scenario.specs.declared.step.Step.{Step}
 use Rattle.tap_log.specs.declared.record.Record.{Record}
-use Rattle.tap_log.specs.declared.record.Record.TheVariants.{Carrier, Finished, Spent, Step as StepRecord}
+use Rattle.tap_log.specs.declared.record.Record.TheVariants.{Carrier, Finished, Spent}
 use Rattle.tap_log.specs.Kinds.{accepts, begins_group, is_carried, sent_number, taken_number}
-use Rattle.tap_log.specs.Log.{last_of}
 use Rattle.tap_log.specs.Reduced.{is_added, reduced}
 use Rattle.tap_log.proofs.MoreRecords.{filter_map-same, is_carried-push}
-use Rattle.tap_history.specs.Core.{accepted_in, accepted_step, accepted_steps, members_of}
+use Rattle.tap_history.specs.Core.{accepted_in, accepted_step, accepted_steps}
 use Rattle.tap_history.specs.Departing.{departing_of}
 use Rattle.tap_history.specs.GroupLaws.{IsGroup}
 use Rattle.tap_history.specs.Moments.{is_none, is_still, numbers_less, outstanding}
@@ -21,54 +19,21 @@ use Rattle.tap_history.proofs.OneMoreGroup.{accepted_in-group, is_carried-group,
 use Rattle.tap_history.proofs.RecordChanges.{accepted_steps-push}
 use Rattle.tap_runs.specs.Beginning.{Beginning, begin_record}
 use Rattle.tap_carried.specs.LogTurns.{beginning_records}
-use Rattle.tap_carried.specs.ReducedRuns.{IsRunOfTurns, ReducesToRun}
-use Rattle.tap_carried.proofs.BeginningKept.{log_kept, none_departs}
-use Rattle.tap_carried.proofs.ReducedRuns.{runs_reduce}
+use Rattle.tap_carried.specs.ReducedRuns.{IsRunOfTurns}
+use Rattle.tap_carried.proofs.BeginningKept.{none_departs}
 use Rattle.tap_carried.proofs.SameNodes.{SaysAlike}
-use Rattle.tap_carried.proofs.SameStarts.{HasNoStep, starts_in}
-use Rattle.tap_carried.proofs.TurnGroups.{reduced-append}
+use Rattle.tap_carried.proofs.SameStarts.{HasNoStep}
 use Rattle.tap_carried.proofs.TurnsKept.{IsKept}
 use Rattle.tap_safe_runs.specs.Safe.{IsRun}
-use Rattle.tap_safe_runs.proofs.NeverAlone.{HasNoStartLast, no_start_last}
+use Rattle.tap_safe_runs.proofs.NeverAlone.{HasNoStartLast}
 use Rattle.tap_headline.specs.Endings.{MayEnd}
 use Rattle.tap_headline.proofs.Departing.{HasLastGroup}
-use Rattle.tap_headline.proofs.Ended.{IsEnded, may_finish, run_ended}
+use Rattle.tap_headline.proofs.EachMoment.{ended_alike, run_alone, run_kept, run_reduced}
+use Rattle.tap_headline.proofs.Ended.{may_finish}
 use Rattle.tap_headline.proofs.Openings.{IsOpening, opening_begins, opening_ends, opening_sends, opening_takes}
 use Rattle.tap_headline.proofs.Starts.{IsIdle, finished_idle, idle_starts, names_no_departure}
 
--- the reduced log is that of a run
-pub as_run : (b : Beginning) (log : List Record) → ReducesToRun b log → IsRun b (reduced log)
-as_run b log is = record { course = is.course; going = is.going; steps = is.steps }
-
--- ---- the last record
-
-last_later : (first item : Record) (items : List Record) → last_of items ≡ Some item → last_of (first ∷ items) ≡ Some item
-last_later first item [] is = absurd (cc)
-last_later first item (next ∷ items) is = is
-
-last_so : (left_out : Bool) (first item : Record) (items : List Record) → last_of items ≡ Some item
-    → last_of (cond {A = List Record} (not left_out) (first ∷ items) items) ≡ Some item
-last_so true first item items is = is
-last_so false first item items is = last_later first item items is
-
--- it is that of the reduced log if this keeps it
-last_kept : (log : List Record) (item : Record) → is_added item ≡ false → last_of log ≡ Some item → last_of (reduced log) ≡ Some item
-last_kept [] item kept is = absurd (cc)
-last_kept (first ∷ []) item kept is =
-    let same : first ≡ item = cc in
-    ap (λ b. last_of (cond {A = List Record} (not b) (first ∷ []) [])) (ap is_added same ∙ kept) ∙ is
-last_kept (first ∷ next ∷ items) item kept is =
-    last_so (is_added first) first item (reduced (next ∷ items)) (last_kept (next ∷ items) item kept is)
-
-step_stays : (index : ℕ) (step : Step) → is_added (StepRecord index step) ≡ false
-unfolding is_added
-step_stays index step = refl
-
 -- ---- what stands at the end
-
-members_more : (log more : List Record) → 1 ≤ length log → members_of (log ++ more) ≡ members_of log
-members_more [] more begun = absurd (omega (arith, begun))
-members_more (item ∷ items) more begun = refl
 
 finished_within : (carried : Bool) (steps : ℕ) → begins_group carried (Finished steps) ≡ false
 unfolding begins_group
@@ -112,41 +77,13 @@ IsBegunOrGrown b log = (log ≡ beginning_records true b) ⊎ HasLastGroup log
 
 module _ (b : Beginning) (log : List Record) (run : IsRunOfTurns true b log) where
   pub kept : IsKept true log
-  kept = log_kept true log (runs_reduce.turns true b log run)
+  kept = run_kept true b log run
 
   pub reduced_run : IsRun b (reduced log)
-  reduced_run = as_run b log (runs_reduce.run true b log run)
+  reduced_run = run_reduced true b log run
 
-  -- its last record isn't the step of a start
   alone : HasNoStartLast log
-  alone index step is = no_start_last b (reduced log) reduced_run index step (last_kept log (StepRecord index step) (step_stays index step) is)
-
-  -- with what changes nothing in the reduced log, and accepts no start and has nobody depart, both say the same
-  module _ (ending : List Record) (may : MayEnd (reduced log) (reduced ending)) (carried : is_carried (log ++ ending) ≡ true)
-      (starts : filter is_start (accepted_steps (log ++ ending)) ≡ filter is_start (accepted_steps log))
-      (departing : departing_of (log ++ ending) ≡ departing_of log) where
-    abbrev longer : List Record
-    longer = log ++ ending
-
-    parts : reduced longer ≡ reduced log ++ reduced ending
-    parts = reduced-append log ending
-
-    ended : IsEnded b (reduced log) (reduced ending)
-    ended = run_ended b (reduced log) reduced_run (reduced ending) may
-
-    ended_alike : SaysAlike true longer
-    ended_alike = record {
-      carried = carried;
-      uncarried = ap is_carried parts ∙ ended.uncarried;
-      members =
-          ap members_of parts ∙ members_more (reduced log) (reduced ending) kept.reduced_begun ∙ kept.members
-          ∙ sym (members_more log ending kept.begun);
-      starts =
-          ap (λ d. starts_in d longer) (sym carried) ∙ starts ∙ ap (λ d. starts_in d log) kept.carried ∙ kept.starts
-          ∙ ap (λ d. starts_in d (reduced log)) (sym kept.uncarried) ∙ sym ended.same.starts
-          ∙ ap (λ d. starts_in d (reduced log ++ reduced ending)) ended.uncarried ∙ ap (starts_in false) (sym parts);
-      departing = ap departing_of parts ∙ ended.same.departing ∙ kept.departing ∙ sym departing;
-    }
+  alone = run_alone true b log run
 
   -- ---- too many frames would be sent
 
@@ -187,7 +124,7 @@ module _ (b : Beginning) (log : List Record) (run : IsRunOfTurns true b log) whe
         ∙ never_still (is_still log) (departing_of log) kept.still
 
     pub cut_alike : SaysAlike true (log ++ cut)
-    cut_alike = ended_alike cut (opening_ends (reduced log) first limit opens) cut_carried cut_starts cut_departs
+    cut_alike = ended_alike true b log run cut (opening_ends (reduced log) first limit opens) cut_carried cut_starts cut_departs
 
   -- ---- all steps were run
 
@@ -283,4 +220,4 @@ module _ (b : Beginning) (log : List Record) (run : IsRunOfTurns true b log) whe
     finished_ends = may_finish (reduced log) steps
 
     pub finished_alike : SaysAlike true (log ++ last ∷ [])
-    finished_alike = ended_alike (last ∷ []) finished_ends finished_carried (idle_starts log last idle) finished_departs
+    finished_alike = ended_alike true b log run (last ∷ []) finished_ends finished_carried (idle_starts log last idle) finished_departs

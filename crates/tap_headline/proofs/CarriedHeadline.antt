@@ -14,33 +14,26 @@ use Rattle.tap_history.specs.GroupLaws.{IsGroup}
 use Rattle.tap_history.specs.Moments.{is_moment}
 use Rattle.tap_history.proofs.OneMoreGroup.{one_more_group_holds}
 use Rattle.tap_runs.specs.Beginning.{Beginning}
-use Rattle.tap_carried.specs.ReducedLogs.{AgreesWithReduced}
 use Rattle.tap_carried.specs.ReducedRuns.{IsRunOfTurns}
-use Rattle.tap_carried.proofs.BeginningKept.{log_kept}
-use Rattle.tap_carried.proofs.ReducedLogs.{log_agrees, logs_agree, rest_too}
 use Rattle.tap_carried.proofs.SameNodes.{SaysAlike}
-use Rattle.tap_carried.proofs.TurnGroups.{reduced-append}
 use Rattle.tap_lawful.specs.CarriedRuns.{CarriedComesNext, IsCarriedCut, IsCarriedLogOf, IsCarriedPlayed, IsCarriedScript, IsCarriedSpent}
 use Rattle.tap_lawful.specs.Next.{beginning_in}
 use Rattle.tap_lawful.proofs.CarriedOneLog.{one_carried_log_holds}
 use Rattle.tap_lawful.proofs.CarriedReduction.{carried_run, carried_runs_reduce, whole_next}
 use Rattle.tap_lawful.proofs.CarriedWhole.{after_alone}
-use Rattle.tap_headline.specs.Carried.{AtCarriedMomentsOf, CarriedLogsHaveHeadline, IsAllTakenAtRest, IsMomentOfReduced, ReducedLogsAreRuns, UncutLogsKeepMoments}
+use Rattle.tap_headline.specs.Carried.{AtCarriedMomentsOf, CarriedLogsHaveHeadline, IsAllTakenAtRest, ReducedLogsAreRuns, UncutLogsKeepMoments}
 use Rattle.tap_headline.specs.Endings.{MayEnd}
-use Rattle.tap_headline.specs.Headline.{HasHeadline}
-use Rattle.tap_headline.proofs.CarriedEnds.{as_run, cut_alike, cut_frames, finished_alike, finished_ends, finished_frames, kept, reduced_run}
+use Rattle.tap_headline.proofs.CarriedEnds.{cut_alike, cut_frames, finished_alike, finished_ends, finished_frames, kept}
 use Rattle.tap_headline.proofs.CarriedMoments.{HasBegun, IsEarlierOrLast, IsSoFar, begun_cases, begun_end, begun_more, cut_moments, finished_cases, first_step, so_far, step_begun}
 use Rattle.tap_headline.proofs.CarriedTaken.{all_arrived, all_taken, cut_all, each_once, finished_all, front_keeps, played_keeps}
+use Rattle.tap_headline.proofs.EachMoment.{HasHeadlineSoFar, as_run, at_end, at_moment}
 use Rattle.tap_headline.proofs.FewPackets.{few_made}
-use Rattle.tap_headline.proofs.Headline.{ended_logs_have_headline}
 use Rattle.tap_headline.proofs.Openings.{HasOpening, IsOpening, opening_begins, opening_ends, opening_of}
 use Rattle.tap_headline.proofs.RootSetLogs.{carried_right}
 
 -- what is so of the records of a carried run up to a moment
 record HasAll (s : ScenarioValue) (front : List Record) : Type 0 where
-  headline : HasHeadline s.settings (reduced front)
-  moment : IsMomentOfReduced front
-  agrees : AgreesWithReduced front
+  has : HasHeadlineSoFar s.settings front
   taken : IsAllTakenAtRest front
 
 -- ---- at a moment of a run that isn't over
@@ -49,22 +42,16 @@ module _ (s : ScenarioValue) (script : IsCarriedScript s) (played : List Record)
   abbrev b : Beginning
   b = beginning_in s
 
-  at_moment : (m : ℕ) → is_moment played m ≡ true → HasAll s (take m played)
-  at_moment m is =
-      let front = take m played in
-      let turns = carried_runs_reduce.turns_at s played m script is_played is in
-      record {
-        headline = ended_logs_have_headline.going b (reduced front)
-            (as_run b front (carried_runs_reduce.reduces_at s played m script is_played is));
-        moment = record { moment = (log_kept true front turns).whole; rest = logs_agree.rest true front turns };
-        agrees = logs_agree.agree true front turns;
-        taken = all_taken front (front_keeps s played m script is_played);
-      }
-
-  -- ---- at its end
-
   run : IsRunOfTurns true b played
   run = carried_run s script played is_played
+
+  at_each : (m : ℕ) → is_moment played m ≡ true → HasAll s (take m played)
+  at_each m is = record {
+    has = at_moment true b played run m is;
+    taken = all_taken (take m played) (front_keeps s played m script is_played);
+  }
+
+  -- ---- at its end
 
   far : IsSoFar s played
   far = so_far s script played is_played
@@ -74,13 +61,9 @@ module _ (s : ScenarioValue) (script : IsCarriedScript s) (played : List Record)
     abbrev longer : List Record
     longer = played ++ ending
 
-    at_end : HasAll s longer
-    at_end = record {
-      headline =
-          subst (HasHeadline s.settings) (sym (reduced-append played ending))
-          (ended_logs_have_headline.ended b (reduced played) (reduced ending) (reduced_run b played run) may);
-      moment = record { moment = begun_end (reduced longer) alike.uncarried begun; rest = rest_too true longer alike };
-      agrees = log_agrees true longer alike;
+    at_last : HasAll s longer
+    at_last = record {
+      has = at_end true b played run ending may alike (begun_end (reduced longer) alike.uncarried begun);
       taken = taken;
     }
 
@@ -88,12 +71,12 @@ module _ (s : ScenarioValue) (script : IsCarriedScript s) (played : List Record)
   module _ (ending : List Record) where
     by_end : (m : ℕ) → IsEarlierOrLast played (played ++ ending) m → HasAll s (played ++ ending) → HasAll s (take m (played ++ ending))
     by_end m (inl earlier) last =
-        subst (HasAll s) (sym (take-append-le m played ending earlier.0)) (at_moment m earlier.1)
+        subst (HasAll s) (sym (take-append-le m played ending earlier.0)) (at_each m earlier.1)
     by_end m (inr end) last =
         subst (HasAll s) (sym (ap (λ k. take k (played ++ ending)) end ∙ take-length (played ++ ending))) last
 
     by_front : (m : ℕ) → m ≤ length played → is_moment played m ≡ true → HasAll s (take m (played ++ ending))
-    by_front m within is = subst (HasAll s) (sym (take-append-le m played ending within)) (at_moment m is)
+    by_front m within is = subst (HasAll s) (sym (take-append-le m played ending within)) (at_each m is)
 
   -- ---- by how it has ended
 
@@ -107,7 +90,7 @@ module _ (s : ScenarioValue) (script : IsCarriedScript s) (played : List Record)
         | inr grown ↦
             let keeps = played_keeps s script played is_played in
             by_end last m (finished_cases b played run grown.0 (length s.steps) m is)
-            (at_end last (finished_ends b played run (inr grown.0) (length s.steps)) (finished_alike b played run (inr grown.0) (length s.steps))
+            (at_last last (finished_ends b played run (inr grown.0) (length s.steps)) (finished_alike b played run (inr grown.0) (length s.steps))
             (finished_all played (length s.steps) keeps (finished_frames b played run (inr grown.0) (length s.steps)))
             (begun_more played last grown.1))
       ]
@@ -135,7 +118,7 @@ module _ (s : ScenarioValue) (script : IsCarriedScript s) (played : List Record)
         let last = first ∷ Spent s.frames ∷ [] in
         let keeps = played_keeps s script played is_played in
         by_end last m (cut_moments b played run first s.frames opening.opens m is)
-        (at_end last (opening_ends (reduced played) first s.frames opening.opens) (cut_alike b played run first s.frames opening.opens)
+        (at_last last (opening_ends (reduced played) first s.frames opening.opens) (cut_alike b played run first s.frames opening.opens)
         (cut_all played first s.frames opening.opens keeps (cut_frames b played run first s.frames opening.opens)) cut_begun)
 
     one_is : take 1 group ≡ opening.first ∷ []
@@ -191,7 +174,7 @@ has_all s log script of m is =
     elim of.ending [
       | inl same ↦
           subst (λ l. HasAll s (take m l)) (sym same)
-          (at_moment s script of.played of.is_played m (subst (λ l. is_moment l m ≡ true) same is.moment))
+          (at_each s script of.played of.is_played m (subst (λ l. is_moment l m ≡ true) same is.moment))
       | inr (inl (inl finished)) ↦
           subst (λ l. HasAll s (take m l)) (sym finished.log_is)
           (finished_has s script of.played of.is_played m (subst (λ l. is_moment l m ≡ true) finished.log_is is.moment))
@@ -203,9 +186,9 @@ pub carried_logs_have_headline : CarriedLogsHaveHeadline
 carried_logs_have_headline s log script of =
     let all = has_all s log script of in
     record {
-      headline = λ m is. (all m is).headline;
-      moments = λ m is. (all m is).moment;
-      agreement = λ m is. (all m is).agrees;
+      headline = λ m is. (all m is).has.headline;
+      moments = λ m is. (all m is).has.moment;
+      agreement = λ m is. (all m is).has.agrees;
       arrived = all_arrived s log script of;
       taken_once = each_once s log script of;
       rest_all_taken = λ m is. (all m is).taken;

@@ -48,7 +48,7 @@ begun_or_grown b log run = by_groups b (IsBegunOrGrown b) grows (inl refl) log r
         let w = whole b log group course going follows in
         inr (record { before = log; first = w.first; after = w.after; is = ap (λ g. log ++ g) w.is; group = w.whole })
 
-step_begins : (carried : Bool) (index : ℕ) (step : Step) → begins_group carried (StepRecord index step) ≡ true
+pub step_begins : (carried : Bool) (index : ℕ) (step : Step) → begins_group carried (StepRecord index step) ≡ true
 unfolding begins_group
 step_begins carried index step = refl
 

@@ -111,11 +111,11 @@ finished_plain steps = tt
 pub one_plain : (item : Record) → IsPlain item → All IsPlain (item ∷ [])
 one_plain item is = All-cons IsPlain item [] is (All-nil IsPlain)
 
-finished_within : (steps : ℕ) → begins_group false (Finished steps) ≡ false
+pub finished_within : (steps : ℕ) → begins_group false (Finished steps) ≡ false
 unfolding begins_group
 finished_within steps = refl
 
-spent_within : (limit : ℕ) → begins_group false (Spent limit) ≡ false
+pub spent_within : (limit : ℕ) → begins_group false (Spent limit) ≡ false
 unfolding begins_group
 spent_within limit = refl
 

@@ -14,6 +14,7 @@ pub mod Headline
 mod HasInvariant
 mod AsLogged
 mod Openings
+mod EachMoment
 mod CarriedEnds
 mod CarriedMoments
 mod CarriedTaken
@@ -21,5 +22,6 @@ mod FewPackets
 mod RootSets
 mod RootSetLogs
 mod CarriedHeadline
+mod UncarriedHeadline
 mod CarriedPrinted
 pub mod Runs

@@ -37,7 +37,7 @@ use Rattle.tap_safe_runs.specs.Moments.{tables_of}
 use Rattle.tap_safe_runs.specs.Safe.{IsRun}
 use Rattle.tap_safe_runs.proofs.Moments.{no_hole, walks_end}
 use Rattle.tap_headline.specs.RootSets.{IsRootSet, IsToldRight, RootSetsAreRight, ends_of_walks}
-use Rattle.tap_headline.proofs.CarriedEnds.{as_run}
+use Rattle.tap_headline.proofs.EachMoment.{as_run}
 
 -- ---- each record
 

@@ -31,22 +31,15 @@ use Rattle.tap_lawful.proofs.UncarriedLogs.{same_steps, uncarried_all, uncarried
 use Rattle.tap_headline.specs.LastRecord.{HasAllSteps}
 use Rattle.tap_headline.specs.Printable.{CanBePrinted}
 use Rattle.tap_headline.specs.Runs.{HasReadHead, HeadlineBy, RunLogsArePrinted, RunLogsEndSo, RunLogsFollow, RunLogsHaveHeadline}
-use Rattle.tap_headline.specs.Scripts.{UncarriedLogsHaveHeadline}
 use Rattle.tap_headline.proofs.CarriedHeadline.{carried_logs_have_headline}
 use Rattle.tap_headline.proofs.CarriedPrinted.{carried_printed}
 use Rattle.tap_headline.proofs.LastRecord.{all_steps, spent_last}
 use Rattle.tap_headline.proofs.Openings.{HasOpening, opening_of}
 use Rattle.tap_headline.proofs.Printable.{uncarried_printed}
-use Rattle.tap_headline.proofs.RootSetLogs.{uncarried_right}
-use Rattle.tap_headline.proofs.Scripts.{StepsFollow, logs_follow_scripts, logs_have_headline, no_more_steps, one_more_step}
+use Rattle.tap_headline.proofs.Scripts.{StepsFollow, logs_follow_scripts, no_more_steps, one_more_step}
+use Rattle.tap_headline.proofs.UncarriedHeadline.{uncarried_logs_have_headline}
 
 -- ---- the headline
-
-pub uncarried_logs_have_headline : UncarriedLogsHaveHeadline
-uncarried_logs_have_headline s log valid of = record {
-  headline = logs_have_headline s (reduced log) valid (uncarried_runs_reduce.ended s log valid of);
-  root_sets = uncarried_right s valid log of;
-}
 
 headline_by : (c : Bool) (s : ScenarioValue) (log : List Record) → s.carrier ≡ c → IsScript s → IsLogBy c s log → HeadlineBy c s log
 headline_by true s log is valid of = carried_logs_have_headline s log (record { valid = valid; carried = is }) of

@@ -7,15 +7,23 @@ use Rattle.tap_log.specs.declared.record.Record.{Record}
 use Rattle.tap_log.specs.Log.{begun_steps}
 use Rattle.tap_log.specs.Reduced.{reduced}
 use Rattle.tap_runs.specs.Beginning.{begin_record}
+use Rattle.tap_carried.specs.ReducedLogs.{AgreesWithReduced}
 use Rattle.tap_lawful.specs.Next.{beginning_in, begun_count}
 use Rattle.tap_lawful.specs.Lawful.{IsLogOf, IsUncarriedLogOf}
+use Rattle.tap_safe_runs.specs.SafeLogs.{AtMomentsOf}
+use Rattle.tap_headline.specs.Carried.{IsMomentOfReduced}
 use Rattle.tap_headline.specs.Headline.{HasHeadline}
 use Rattle.tap_headline.specs.RootSets.{RootSetsAreRight}
 
--- What holds of the log of a run that isn't carried. Its reduced log has the headline, by the settings of the scenario: docs/PROOFS.md, "The headline,
--- sentence by sentence"; a log without added records is its own reduced log. And what root sets have told is right.
+-- What holds of the log of a run that isn't carried. Up to each moment of it, its reduced log has the headline, by the settings of the scenario:
+-- docs/PROOFS.md, "The headline, sentence by sentence". The moment is one of the reduced log, a rest is a rest; and both say the same of frames,
+-- nodes and pairs, and refuse the same starts and observations. The whole reduced log has the headline too; a log without added records is its own
+-- reduced log. And what root sets have told is right.
 pub record RunHasHeadline (s : ScenarioValue) (log : List Record) : Type 0 where
-  pub headline : HasHeadline s.settings (reduced log)
+  pub headline : AtMomentsOf log (λ front. HasHeadline s.settings (reduced front))
+  pub moments : AtMomentsOf log IsMomentOfReduced
+  pub agreement : AtMomentsOf log AgreesWithReduced
+  pub whole : HasHeadline s.settings (reduced log)
   pub root_sets : RootSetsAreRight s.settings log
 
 -- each log of a run has it: that of one which isn't over, or which ended early for want of memory, and that of one which is over

@@ -89,9 +89,9 @@ pub fn runs_law()
     ensures printed { RunLogsArePrinted }
 {}
 
-/// What a root set tells is right, in each log of a run that isn't carried: of each of the four salts of its object the root over the core nodes, at which walks to
-/// the salt from each core node end. And a lookup of a salt that is made alone, at a rest at which a pair of this salt is published, finds a server
-/// of it.
+/// The log of a run that isn't carried has the headline up to each of its moments, and what a root set tells in it is right: of each of the four
+/// salts of its object the root over the core nodes, at which walks to the salt from each core node end. And a lookup of a salt that is made alone,
+/// at a rest at which a pair of this salt is published, finds a server of it.
 ///
 /// It does nothing: its contract is the law.
 ///
