@@ -4,6 +4,9 @@ ghost use Rattle.tap_io.specs.AllBytes.{HasReadAll, HasReadTooMany, HasReadUntil
 use crate::source::{Got, Source};
 use std::alloc::Global;
 
+// So many bytes are asked for at once, a page: so few are copied by plain moves.
+const PIECE: usize = 4096;
+
 /// Why the bytes of a source weren't read to their end.
 ///
 /// Rule: docs/DECISIONS.md, "Sources and sinks".
@@ -31,7 +34,7 @@ pub fn read_all<S: Source>(alloc: Global, source: &mut S, most: usize) -> Result
     ensures no_memory { IsErrOf result Unread.NoMemory → HasReadWithoutFault most (S.state source.old) (S.state source.new) }
 {
     let mut bytes = Vec::new(alloc);
-    let mut piece = [0u8; 16384];
+    let mut piece = [0u8; PIECE];
     loop {
         let wanted = piece.len().min(most + 1 - bytes.len());
         match source.read(&mut piece[..wanted]) {
