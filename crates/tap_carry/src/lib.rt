@@ -11,8 +11,6 @@ mod memory;
 mod net;
 mod numbers;
 mod outbox;
-#[cfg(test)]
-mod tests;
 
 pub use inbox::Inbox;
 pub use law::arrivals_law;

@@ -8,8 +8,6 @@
 
 mod law;
 mod steps;
-#[cfg(test)]
-mod tests;
 
 pub use law::{group_changes, log_in_groups, one_more_group, record_changes};
 pub use steps::{depart_name, is_start};

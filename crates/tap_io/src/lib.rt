@@ -27,6 +27,3 @@ pub use sink::{Sink, Took};
 pub use source::{Got, Source};
 pub use std_sink::StdSink;
 pub use std_source::StdSource;
-
-#[cfg(test)]
-mod tests;

@@ -164,69 +164,6 @@ fn search<K: Ord + Copy, V: Copy>(entries: &[Entry<K, V>], key: &K) -> Result<us
     entries.binary_search_by(|entry| entry.key.cmp(key))
 }
 
-#[cfg(test)]
-mod tests {
-    use super::*;
-    use std::test::Fail;
-
-    // The greatest version wins, whatever the order of the writes.
-    #[test]
-    fn keeps_the_greatest_version(rt: HostRuntime) -> Result<(), Fail> {
-        let mut registers: Registers<u8, char> = Registers::new(rt.alloc());
-        assert!(rt; registers.is_empty());
-        for (key, version, value, kept) in [
-            (5, 2, 'b', true),
-            (5, 1, 'a', false),
-            (5, 2, 'x', false),
-            (9, 0, 'c', true),
-            (3, 7, 'd', true),
-            (7, 1, 'e', true),
-            (5, 3, 'f', true),
-            (8, 1, 'g', true),
-            (1, 4, 'h', true),
-        ] {
-            assert_eq!(rt; registers.apply(key, version, value)?, kept);
-        }
-        assert_eq!(rt; registers.len(), 6);
-        let expected = [
-            (1, 4, 'h'),
-            (3, 7, 'd'),
-            (5, 3, 'f'),
-            (7, 1, 'e'),
-            (8, 1, 'g'),
-            (9, 0, 'c'),
-        ];
-        for (entry, (key, version, value)) in registers.as_slice().iter().zip(expected) {
-            let is = Entry {
-                key,
-                version,
-                value,
-            };
-            assert_eq!(rt; *entry, is);
-            assert_eq!(rt; registers.get(key), Some(value));
-        }
-        assert_eq!(rt; registers.entry_at(5).key, 9);
-        assert_eq!(rt; registers.get(4), None);
-        assert!(rt; !registers.is_empty());
-        Ok(())
-    }
-
-    // Entries that are added at the end, one after the other.
-    #[test]
-    fn adds_entries_at_the_end(rt: HostRuntime) -> Result<(), Fail> {
-        let mut registers: Registers<u8, char> = Registers::new(rt.alloc());
-        registers.push_last(3, 1, 'a')?;
-        registers.push_last(5, 0, 'b')?;
-        assert_eq!(rt; registers.len(), 2);
-        assert_eq!(rt;
-            (registers.get(3), registers.get(5)),
-            (Some('a'), Some('b'))
-        );
-        assert!(rt; !registers.apply(5, 0, 'c')?);
-        Ok(())
-    }
-}
-
 // Puts an entry in at a place. Most registers keep one key, so that there is room for no more than the first one at first.
 fn put_in<T: Copy>(entries: &mut Vec<T>, at: usize, entry: T) -> Result<(), NoMemory>
     requires { at ≤ vec_len entries.old }

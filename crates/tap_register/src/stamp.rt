@@ -46,17 +46,3 @@ impl Stamp {
         self.last
     }
 }
-
-#[cfg(test)]
-mod tests {
-    use super::*;
-
-    #[test]
-    fn counts_from_one(rt: HostRuntime) {
-        let mut stamp = Stamp::new();
-        assert_eq!(rt; stamp.last(), 0);
-        assert_eq!(rt; stamp.next(), 1);
-        assert_eq!(rt; stamp.next(), 2);
-        assert_eq!(rt; stamp.last(), 2);
-    }
-}

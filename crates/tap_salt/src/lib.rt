@@ -3,8 +3,6 @@
 
 mod law;
 mod salts;
-#[cfg(test)]
-mod tests;
 
 pub use law::salts_law;
 pub use salts::{name_of, salt, salts_of};

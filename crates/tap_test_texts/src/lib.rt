@@ -1,8 +1,12 @@
-//! Tests of scenarios, words, logs and their texts, each over its public calls.
+//! Tests of devices, scenarios, words, logs and their texts, each over its public calls.
 //!
 //! This crate has nothing but tests: beside their crates these would be proved with all of them once more.
 #![tactic(auto)]
 
+#[cfg(test)]
+mod history;
+#[cfg(test)]
+mod io;
 #[cfg(test)]
 mod line;
 #[cfg(test)]

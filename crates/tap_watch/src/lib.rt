@@ -6,6 +6,3 @@ mod watch;
 
 pub use memory::NoMemory;
 pub use watch::Watch;
-
-#[cfg(test)]
-mod tests;

@@ -1,6 +1,6 @@
-use crate::{Await, Inbox, MOST_FRAMES, MOST_PACKETS, Net, Numbered, Outbox, Packet};
 use std::alloc::Global;
 use std::process::Abort;
+use tap_carry::{Await, Inbox, MOST_FRAMES, MOST_PACKETS, Net, Numbered, Outbox, Packet};
 use tap_name::{Name, Settings};
 
 // The digits of three nodes.

@@ -1,9 +1,9 @@
-use crate::{
-    BufferedSink, Flushed, Got, MemorySink, MemorySource, Sink, Source, StdSink, StdSource, Took,
-};
 use std::io::{self, ErrorKind, Read, Write};
 use std::process::Abort;
 use std::test::Fail;
+use tap_io::{
+    BufferedSink, Flushed, Got, MemorySink, MemorySource, Sink, Source, StdSink, StdSource, Took,
+};
 
 // Reads into four places at a time, and compares each answer and what came.
 fn check_reads<S: Source>(rt: &impl Abort, source: &mut S, reads: &[(Got, &[u8])]) {
