@@ -1,10 +1,11 @@
 ghost use Rattle.std.specs.Prelude.{◌≡◌, ◌<◌, ◌≤◌, ◌+◌, ◌*◌, ◌++◌, [], All, length, decimal};
 ghost use Rattle.hex.specs.Hex.{encode_lower};
 ghost use Rattle.tap_name.specs.Name.{text_of_name};
+ghost use Rattle.tap_host_line.specs.Draft.{most_drafted};
 
 use itoa::Buffer;
 use std::marker::Model;
-use tap_name::{Name, text_of_digit};
+use tap_name::{Name, print_digits, text_of_digit};
 
 // Nearly all frames have at most so many bytes; these are read and printed at once, without a list of their own.
 pub(crate) const FEW_BYTES: usize = 256;
@@ -23,12 +24,13 @@ pub(crate) struct Draft {
 
 impl Model for Draft {
     ghost use Rattle.std.specs.Prelude.{◌≤◌, List, ℕ, take};
+    ghost use Rattle.tap_host_line.specs.Draft.{most_drafted};
 
     ghost Value = { List ℕ };
 
     ghost view = { λ d. take d.len d.room };
 
-    ghost invariant = { λ d. d.len ≤ 576 };
+    ghost invariant = { λ d. d.len ≤ most_drafted };
 }
 
 impl Draft {
@@ -54,7 +56,7 @@ impl Draft {
     // Adds bytes for which there is room.
     #[inline(always)]
     pub(crate) fn push(&mut self, bytes: &[u8])
-        requires { length self.old + length bytes.now ≤ 576 }
+        requires { length self.old + length bytes.now ≤ most_drafted }
         ensures text { self.new ≡ self.old ++ bytes.now }
         ensures len { length self.new ≡ length self.old + length bytes.now }
     {
@@ -65,7 +67,7 @@ impl Draft {
 
     // Adds a name, a byte for each digit. All places are printed at once, and the first of them taken.
     pub(crate) fn push_name(&mut self, name: &Name)
-        requires { length self.old + 40 ≤ 576 }
+        requires { length self.old + 40 ≤ most_drafted }
         ensures text { self.new ≡ self.old ++ text_of_name name.now }
         ensures len { length self.new ≤ length self.old + 40 }
     {
@@ -79,7 +81,7 @@ impl Draft {
 
     // Adds a number in decimal.
     pub(crate) fn push_number(&mut self, number: u32)
-        requires { length self.old + 10 ≤ 576 }
+        requires { length self.old + 10 ≤ most_drafted }
         ensures text { self.new ≡ self.old ++ decimal number }
         ensures len { length self.new ≤ length self.old + 10 }
     {
@@ -89,25 +91,13 @@ impl Draft {
 
     // Adds bytes in hexadecimal.
     pub(crate) fn push_hex(&mut self, bytes: &[u8])
-        requires { length self.old + 2 * length bytes.now ≤ 576 }
+        requires { length self.old + 2 * length bytes.now ≤ most_drafted }
         ensures text { self.new ≡ self.old ++ encode_lower bytes.now }
         ensures len { length self.new ≡ length self.old + 2 * length bytes.now }
     {
         let end = self.len + 2 * bytes.len();
         print_hex(bytes, &mut self.room[self.len..end]);
         self.len = end;
-    }
-}
-
-// Prints digits, each in its place.
-#[inline(always)]
-fn print_digits(digits: &[u8], text: &mut [u8])
-    requires places { length text.old ≡ length digits.now }
-    requires below { All (λ digit. digit < 16) digits.now }
-    ensures { text.new ≡ text_of_name digits.now }
-{
-    for at in 0..digits.len() {
-        text[at] = text_of_digit(digits[at]);
     }
 }
 

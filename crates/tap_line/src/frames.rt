@@ -8,12 +8,11 @@ use crate::fault::LineFault;
 use crate::hexadecimal::bytes_of_hex;
 use crate::line::Line;
 use crate::names::is_text;
-use crate::same::is_same;
 use crate::taking::{PLACE_MAX, only, take_letters, take_name, take_number, take_word};
 use std::alloc::Global;
 use tap_log::Record;
 use tap_name::{Name, Settings};
-use tap_scenario::{Word, Words};
+use tap_scenario::{Word, Words, is_same};
 use tap_wire::{Bytes, decode_head};
 
 // The parts of a cast that begins.

@@ -7,7 +7,7 @@ ghost use Rattle.tap_line.specs.Hexadecimal.{is_digit, loose_value};
 
 use crate::fault::LineFault;
 use std::alloc::Global;
-use tap_name::text_of_digit;
+use tap_name::{put_joined, text_of_digit};
 use tap_wire::Bytes;
 
 // So many bytes have nearly all frames; they are put together without a list of their own.
@@ -44,18 +44,6 @@ fn take_digits(text: &[u8], values: &mut [u8]) -> bool
         values[at] = value;
     }
     good
-}
-
-// Puts two digits in each place.
-#[inline(always)]
-fn put_joined(digits: &[u8], places: &mut [u8])
-    requires places { length digits.now ≡ 2 * length places.old }
-    requires digits { All (λ digit. digit < 16) digits.now }
-    ensures { places.new ≡ joined digits.now }
-{
-    for at in 0..places.len() {
-        places[at] = digits[2 * at] * 16 + digits[2 * at + 1];
-    }
 }
 
 // The bytes that an even number of digits spell, put together in these places.

@@ -17,7 +17,6 @@ mod openings;
 mod paths;
 mod reading;
 mod refusals;
-mod same;
 mod tables;
 mod taking;
 

@@ -3,11 +3,10 @@ ghost use Rattle.tap_line.specs.Reading.{answered_of_words, asked_of_words, pair
 
 use crate::kind::PairKind;
 use crate::line::Line;
-use crate::same::is_same;
 use crate::taking::{PLACE_MAX, only, take_name, take_number, take_word};
 use tap_log::Record;
 use tap_name::{Name, Settings};
-use tap_scenario::Words;
+use tap_scenario::{Words, is_same};
 
 // An object and a node that has it, after the first word.
 #[inline(never)]

@@ -1,23 +1,11 @@
 ghost use Rattle.std.specs.Prelude.{◌≡◌, ◌<◌, All, bytes_eq, length};
 ghost use Rattle.tap_name.specs.Name.{text_of_name};
 
-use crate::same::is_same;
-use tap_name::{Name, USUAL_DIGITS, text_of_digit};
+use tap_name::{Name, USUAL_DIGITS, print_digits};
+use tap_scenario::is_same;
 
 // So many digits has a name at most.
 const MOST_DIGITS: usize = 40;
-
-// Prints digits, each in its place.
-#[inline(always)]
-fn print_digits(digits: &[u8], text: &mut [u8])
-    requires places { length text.old ≡ length digits.now }
-    requires below { All (λ digit. digit < 16) digits.now }
-    ensures { text.new ≡ text_of_name digits.now }
-{
-    for at in 0..digits.len() {
-        text[at] = text_of_digit(digits[at]);
-    }
-}
 
 // Whether a word is the text of a name that has as many digits as usual: all are printed at once.
 #[inline(always)]
@@ -25,7 +13,8 @@ fn is_usual_text(word: &[u8], name: &Name) -> bool
     requires { length name.now ≡ 8 }
     ensures { result ≡ bytes_eq word.now (text_of_name name.now) }
 {
-    let digits = name.usual_digits();
+    let mut digits = [0; USUAL_DIGITS];
+    name.put_usual_digits(&mut digits);
     let mut text = [0; USUAL_DIGITS];
     print_digits(&digits, &mut text);
     is_same(word, &text)

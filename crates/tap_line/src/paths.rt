@@ -5,12 +5,11 @@ ghost use Rattle.tap_line.specs.Reading.{is_path, request, root_set_line_of_word
 
 use crate::fault::LineFault;
 use crate::line::Line;
-use crate::same::is_same;
 use crate::taking::{only, take_name, take_number, take_word};
 use std::alloc::Global;
 use tap_log::Record;
 use tap_name::{List, Name, Settings, read_name};
-use tap_scenario::Words;
+use tap_scenario::{Words, is_same};
 
 // An object and the node that asks for it.
 #[derive(Clone, Copy)]

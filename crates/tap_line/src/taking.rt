@@ -4,9 +4,8 @@ ghost use Rattle.tap_scenario.specs.Step.{one_number, only};
 ghost use Rattle.tap_line.specs.Front.{digit, digit_of_word, is_rest, letters, name, number, told, word};
 
 use crate::numbers::number_of;
-use crate::same::is_same;
 use tap_name::{Name, Settings, read_name};
-use tap_scenario::{Word, Words};
+use tap_scenario::{Word, Words, is_same};
 
 // The greatest number that stands for a place, a count, or a number of its own.
 pub(crate) const PLACE_MAX: u64 = u32::MAX as u64;

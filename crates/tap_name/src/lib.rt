@@ -13,7 +13,7 @@ mod word;
 
 pub use list::List;
 pub use memory::NoMemory;
-pub use name::{Name, NameFault, USUAL_DIGITS, put_joined, text_of_digit};
+pub use name::{Name, NameFault, USUAL_DIGITS, print_digits, put_joined, text_of_digit};
 pub use name_digits::NameDigits;
 pub use reading::read_name;
 pub use settings::Settings;

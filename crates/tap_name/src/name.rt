@@ -9,7 +9,7 @@ ghost use Rattle.std.specs.Hash.{same_Alike};
 ghost use Rattle.std.specs.Int.{from_be_bytes, w32, w64};
 ghost use Rattle.std.specs.List.{common_prefix_len};
 ghost use Rattle.tap_name.specs.Digits.{text_of_digit};
-ghost use Rattle.tap_name.specs.Name.{IsName, name_of_digits};
+ghost use Rattle.tap_name.specs.Name.{IsName, name_of_digits, text_of_name};
 ghost use Rattle.tap_name.specs.Packed.{halves, head_from, joined, packed};
 ghost use Rattle.tap_name.specs.Padded.{padded};
 ghost use Rattle.tap_name.specs.Prefix.{lcp};
@@ -82,18 +82,17 @@ impl Name {
         NameDigits::first_of(places, self.len)
     }
 
-    /// The digits, one a byte, of a name that has as many as usual.
+    /// Puts the digits of a name that has as many as usual, one a byte, into so many places.
     ///
     /// Rule: docs/PROTOCOL.md, "Names".
     #[inline(always)]
-    pub fn usual_digits(&self) -> [u8; USUAL_DIGITS]
-        requires { length self.now ≡ 8 }
-        ensures value { result ≡ self.now }
+    pub fn put_usual_digits(&self, places: &mut [u8])
+        requires usual { length self.now ≡ 8 }
+        requires places { length places.old ≡ 8 }
+        ensures value { places.new ≡ self.now }
         ensures digits { All (λ d. d < 16) self.now }
     {
-        let mut digits = [0; USUAL_DIGITS];
-        put_halves(&self.pairs[..USUAL_DIGITS / 2], &mut digits);
-        digits
+        put_halves(&self.pairs[..USUAL_DIGITS / 2], places);
     }
 
     /// The number of digits.
@@ -228,6 +227,20 @@ fn pair_of(first: u8, second: u8) -> u8
 {
     let both = u16::from(first) + 256 * u16::from(second);
     (both.wrapping_mul(4097) / 256) as u8
+}
+
+/// Prints digits, each below 16: puts the byte of each, `0` to `9` or `a` to `f`, in its place.
+///
+/// Rule: docs/PROTOCOL.md, "Names".
+#[inline(always)]
+pub fn print_digits(digits: &[u8], text: &mut [u8])
+    requires places { length text.old ≡ length digits.now }
+    requires below { All (λ digit. digit < 16) digits.now }
+    ensures { text.new ≡ text_of_name digits.now }
+{
+    for at in 0..digits.len() {
+        text[at] = text_of_digit(digits[at]);
+    }
 }
 
 /// Writes digits two a byte, the first of each two as the high half.

@@ -7,7 +7,7 @@ use crate::pairs::print_usual;
 use crate::written::{Written, write_text};
 use std::marker::Model;
 use tap_io::Sink;
-use tap_name::{Name, USUAL_DIGITS, text_of_digit};
+use tap_name::{Name, USUAL_DIGITS, print_digits, text_of_digit};
 
 // How many bytes may wait.
 const ROOM: usize = 2048;
@@ -204,18 +204,6 @@ pub(crate) fn usual_text(digits: &[u8]) -> [u8; 2 * USUAL_DIGITS]
     let mut text = [0; 2 * USUAL_DIGITS];
     print_digits(&digits[..2 * USUAL_DIGITS], &mut text);
     text
-}
-
-// Prints digits, each in its place.
-#[inline(always)]
-fn print_digits(digits: &[u8], text: &mut [u8])
-    requires places { length text.old ≡ length digits.now }
-    requires below { All (λ digit. digit < 16) digits.now }
-    ensures { text.new ≡ text_of_name digits.now }
-{
-    for at in 0..digits.len() {
-        text[at] = text_of_digit(digits[at]);
-    }
 }
 
 // Prints bytes in hexadecimal, each in two places.

@@ -24,4 +24,4 @@ pub use scenario::Scenario;
 pub use step::{Step, read_step};
 pub use tap_name::NoMemory;
 pub use wording::{StepWords, WordsAfter};
-pub use words::Words;
+pub use words::{Words, is_same};

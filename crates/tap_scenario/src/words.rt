@@ -31,8 +31,10 @@ fn first_space(text: &[u8]) -> Option<usize>
     text.iter().position(|byte| *byte == b' ')
 }
 
-// Whether two short texts are the same, byte by byte.
-fn is_same(one: &[u8], other: &[u8]) -> bool
+/// Whether two short texts are the same: they are compared byte by byte.
+///
+/// Rule: docs/FORMATS.md, "The scenario".
+pub fn is_same(one: &[u8], other: &[u8]) -> bool
     ensures { result ≡ bytes_eq one.now other.now }
 {
     if one.len() != other.len() {

@@ -52,14 +52,16 @@ fn put_flag(out: &mut [u8], at: usize, on: bool) -> usize
     put_byte(out, at, if on { 1 } else { 0 })
 }
 
-// A name. If it has as many digits as usual, one move copies them.
+// A name. If it has as many digits as usual, all are put at once.
 #[inline(always)]
 pub(crate) fn put_name(out: &mut [u8], at: usize, name: &Name) -> usize
     requires { HasRoom out.old at name.now }
     ensures { Puts out.old at name.now out.new result }
 {
     if name.len() == USUAL_DIGITS {
-        return put_bytes(out, at, &name.usual_digits());
+        let next = at + USUAL_DIGITS;
+        name.put_usual_digits(&mut out[at..next]);
+        return next;
     }
     put_bytes(out, at, name.digits().as_slice())
 }
