@@ -1,5 +1,5 @@
 ghost use Rattle.std.specs.Prelude.{◌≡◌, ◌+◌, ◌<◌, ◌^◌, List, ℕ, if◌then◌else◌, slice_get, Some, IfOk, IfSome, OnOk, OnErr};
-ghost use Rattle.indexmap.specs.IndexMap.{Updates, keys};
+ghost use Rattle.indexmap.specs.IndexMap.{Updates, index_of, keys};
 ghost use Rattle.tap_carry.specs.Names.{is_name, number_of};
 
 use crate::memory::NoMemory;
@@ -9,7 +9,7 @@ use tap_name::Name;
 /// The number of a name, and the place where it is kept.
 #[derive(Clone, Copy)]
 pub(crate) struct Kept {
-    /// The place, if there is one.
+    /// The place, or `None` exactly if no number is kept for the name.
     pub(crate) at: Option<usize>,
     /// The number, or 0.
     pub(crate) number: u32,
@@ -17,7 +17,8 @@ pub(crate) struct Kept {
 
 /// The number that is kept for a name, and where.
 pub(crate) fn kept_in(numbers: &IndexMap<Name, u32>, name: &Name) -> Kept
-    ensures at { IfSome result.at (λ i. slice_get (keys numbers.now) i ≡ Some name.now) }
+    ensures at { result.at ≡ index_of is_name numbers.now name.now }
+    ensures key { IfSome result.at (λ i. slice_get (keys numbers.now) i ≡ Some name.now) }
     ensures number { result.number ≡ number_of numbers.now.entries name.now }
 {
     match numbers.get_full(name) {
