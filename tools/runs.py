@@ -6,10 +6,12 @@ moments", has them, and a `Course` says of each moment who joins, is core, leave
 `Scenario` is written by `text`.
 """
 import argparse
+import math
 import os
 import re
 import subprocess
 import sys
+import tempfile
 import time
 
 import toml_places
@@ -63,6 +65,8 @@ class Wrong(Exception):
 def call(name, main):
     """Runs the main function of a tool, says what is wrong, and ends with its status."""
     try:
+        if sys.stdout is None:
+            raise Wrong("standard output is closed")
         try:
             status = main()
         finally:
@@ -73,8 +77,8 @@ def call(name, main):
     except BrokenPipeError:
         os.dup2(os.open(os.devnull, os.O_WRONLY), sys.stdout.fileno())
         status = 2
-    except UnicodeDecodeError:
-        print(f"{name}: a file isn't UTF-8", file=sys.stderr)
+    except UnicodeError as error:
+        print(f"{name}: a {'file' if isinstance(error, UnicodeDecodeError) else 'word'} isn't UTF-8", file=sys.stderr)
         status = 2
     except OSError as error:
         print(f"{name}: " + (f"{error.filename}: {error.strerror}" if error.filename else str(error)), file=sys.stderr)
@@ -92,10 +96,10 @@ def words_for(page):
 
 
 class Progress:
-    """A line on standard error of how far a tool has come, from the third second on."""
+    """A line on standard error of how far a tool has come, from the third second on. The tool is the one that was called, if none is named."""
 
-    def __init__(self, name):
-        self.name = name
+    def __init__(self, name=None):
+        self.name = name or os.path.basename(sys.argv[0])
         self.next = time.monotonic() + 2
         self.is_shown = False
 
@@ -109,12 +113,17 @@ class Progress:
         self.is_shown = on_terminal
         print(f"{self.name}: {how_far()}", end="\x1b[K\r" if on_terminal else "\n", file=sys.stderr, flush=True)
 
-    def watch(self, child, how_far):
-        """What a process prints, on standard output and on standard error; how far is said until it ends."""
+    def watch(self, child, how_far, seconds=math.inf):
+        """What a process prints, on standard output and on standard error; how far is said until it ends. After so many seconds it is ended."""
+        end = time.monotonic() + seconds
         while True:
             try:
-                return child.communicate(timeout=0.5)
+                return child.communicate(timeout=min(0.5, max(0, end - time.monotonic())))
             except subprocess.TimeoutExpired:
+                if time.monotonic() >= end:
+                    child.kill()
+                    child.communicate()
+                    raise
                 self.show(how_far)
 
     def end(self):
@@ -157,17 +166,24 @@ def program_of(given):
 
 def play(program, text, words=()):
     """The exit status of the program and what it prints for a scenario."""
-    given = text if isinstance(text, bytes) else text.encode("utf-8")
-    try:
-        done = subprocess.run([program, *words], input=given, stdout=subprocess.PIPE, timeout=SECONDS, check=False)
-    except subprocess.TimeoutExpired:
-        raise Wrong(f"the program hasn't ended after {SECONDS} seconds") from None
-    return done.returncode, done.stdout.decode("utf-8", "replace")
+    progress = Progress()
+    with tempfile.TemporaryFile() as given:
+        given.write(text if isinstance(text, bytes) else text.encode("utf-8"))
+        given.seek(0)
+        try:
+            with subprocess.Popen([program, *words], stdin=given, stdout=subprocess.PIPE) as child:
+                printed, _ = progress.watch(child, lambda: "the program runs", SECONDS)
+        except subprocess.TimeoutExpired:
+            raise Wrong(f"the program hasn't ended after {SECONDS} seconds") from None
+    progress.end()
+    return child.returncode, printed.decode("utf-8", "replace")
 
 
 def raw_contents(path):
     """The bytes of a file; of standard input if the path is '-'."""
     if path == "-":
+        if sys.stdin is None:
+            raise Wrong("standard input is closed")
         return sys.stdin.buffer.read()
     with open(path, "rb") as file:
         return file.read()
@@ -330,12 +346,17 @@ class Log:
             raise Wrong(f"{name}: the run didn't end well: {fault}", 1)
         if not lines:
             raise Wrong(f"{name}: the text is empty", 1)
+        progress = Progress()
         try:
             self.read_head(lines[0].split(" "))
             for self.line, line in enumerate(lines[1:], 2):
+                if self.line % 4096 == 0:
+                    progress.show(lambda: f"line {self.line:,} of {len(lines):,} is read")
                 self.read(line.split(" "))
         except (ValueError, LookupError):
             raise Wrong(f"{name}: line {self.line or 1}: this isn't the long text of a run", 1) from None
+        finally:
+            progress.end()
         if not self.members:
             raise Wrong(f"{name}: no member is named: this isn't a long text, but a brief one or a summary", 1)
 
