@@ -9,7 +9,7 @@ use Rattle.tap_rule.specs.Event.{Start}
 use Rattle.tap_rule.specs.Event.Event.{Starts, Takes}
 use Rattle.tap_rule.specs.Act.{act}
 use Rattle.tap_safety.specs.Move.Move.{Begins, Delivers}
-use Rattle.tap_safety.specs.Moved.{delivered, has_begun, moved, numbered_frame, received, starter, without_number}
+use Rattle.tap_safety.specs.Moved.{delivered, moved, numbered_frame, received, starter, with_begun, without_number}
 use Rattle.tap_safety.specs.Spelled.{AreSpelled}
 use Rattle.tap_safety.specs.Exchanges.{numbered_from}
 use Rattle.tap_safety.specs.System.{AmongFrames, System}
@@ -31,7 +31,7 @@ module _ (p : SettingsValue) (s : System) where
       → AreSpelled p (moved p s (Begins name start)) → All (IsFrame p) (act node (Starts start)).sent
   unfolding moved
   start_spelled name start node is spelled =
-      let so : AreSpelled p (has_begun s name start (Some node)) = subst (λ n. AreSpelled p (has_begun s name start n)) is spelled in
+      let so : AreSpelled p (with_begun s name start (Some node)) = subst (λ n. AreSpelled p (with_begun s name start n)) is spelled in
       later_spelled p s.frames s.next (act node (Starts start)).sent so.each
 
   pub taken_spelled : (number : ℕ) (frame : Frame) (node : NodeState) → numbered_frame number s.frames ≡ Some frame → s.node frame.to ≡ Some node

@@ -19,7 +19,7 @@ use Rattle.tap_rule.specs.Node.{NodeState, Status, join_session_at}
 use Rattle.tap_rule.specs.Node.Status.{Ceased, Core, Gone, Joining, Leaving}
 use Rattle.tap_safety.specs.Move.{Move}
 use Rattle.tap_safety.specs.Move.Move.{Begins, Delivers}
-use Rattle.tap_safety.specs.Moved.{delivered, departing_with, has_begun, moved, numbered_frame, received, starter}
+use Rattle.tap_safety.specs.Moved.{delivered, departing_with, moved, numbered_frame, received, starter, with_begun}
 use Rattle.tap_safety.specs.Remembered.{Leaver}
 use Rattle.tap_safety.specs.Rest.{Rest}
 use Rattle.tap_safety.specs.System.{System}
@@ -53,9 +53,9 @@ until_none frames leaver none = ap (λ l. departing_with l leaver) none
 
 module _ (p : SettingsValue) (s : System) (alone : RestsAlone s) where
   -- after a start
-  begins_alone : (x : List ℕ) (start : Start) (node : Option NodeState) → RestsAlone (has_begun s x start node)
+  begins_alone : (x : List ℕ) (start : Start) (node : Option NodeState) → RestsAlone (with_begun s x start node)
   begins_alone x start None = alone
-  begins_alone x start (Some node) = λ none. until_none (has_begun s x start (Some node)).frames _ none
+  begins_alone x start (Some node) = λ none. until_none (with_begun s x start (Some node)).frames _ none
 
   -- after a frame, whether or not its receiver is a node
   receives_alone : (number : ℕ) (frame : Frame) (node : Option NodeState) → RestsAlone (received s number frame node)

@@ -16,7 +16,7 @@ use Rattle.tap_safety.specs.Remembered.{TieWord}
 use Rattle.tap_safety.specs.System.{System, AmongFrames}
 use Rattle.tap_safety.specs.Exchanges.{AreNumbered, Ascend, HasSent, IsTaken, numbered_from, with_at}
 use Rattle.tap_safety.specs.Move.Move.{Begins, Delivers}
-use Rattle.tap_safety.specs.Moved.{IsDelivered, IsLost, IsStarted, has_begun, has_taken, last_after, moved, numbered_frame, starter, until_rest, without_number}
+use Rattle.tap_safety.specs.Moved.{IsDelivered, IsLost, IsStarted, last_after, moved, numbered_frame, starter, until_rest, with_begun, with_taken, without_number}
 use Rattle.tap_safety.specs.Moved.{without_frame, words_with}
 
 -- ---- one name changes
@@ -169,7 +169,7 @@ numbers_sent s s' sent has are =
 -- what a node has taken
 module _ (p : SettingsValue) (s : System) (number : ℕ) (frame : Frame) (node : NodeState)
     (is : numbered_frame number s.frames ≡ Some frame) (at : s.node frame.to ≡ Some node) where
-  after : moved p s (Delivers number) ≡ has_taken s number frame node (act node (Takes frame))
+  after : moved p s (Delivers number) ≡ with_taken s number frame node (act node (Takes frame))
   unfolding moved
   after = rw (is, at) refl
 
@@ -226,7 +226,7 @@ module _ (p : SettingsValue) (s : System) (number : ℕ) (frame : Frame)
 
 -- what a node has started
 module _ (p : SettingsValue) (s : System) (x : List ℕ) (start : Start) (node : NodeState) (is : starter p s x start ≡ Some node) where
-  after_start : moved p s (Begins x start) ≡ has_begun s x start (Some node)
+  after_start : moved p s (Begins x start) ≡ with_begun s x start (Some node)
   unfolding moved
   after_start = rw is refl
 

@@ -17,7 +17,7 @@ use Rattle.tap_safety.specs.System.{System, AmongFrames, HasLink, IsCoreNode, Is
 use Rattle.tap_safety.specs.Departing.{Departs, HasReplaced}
 use Rattle.tap_safety.specs.FrameSteps.{TakesFrame}
 use Rattle.tap_safety.specs.KnownLaws.{DepartsUntilRest, FrameLeavesNotices, NoticesKeptBySteps}
-use Rattle.tap_safety.specs.Moved.{delivered, departing_with, has_taken, moved, numbered_frame, received, without_number}
+use Rattle.tap_safety.specs.Moved.{delivered, departing_with, moved, numbered_frame, received, with_taken, without_number}
 use Rattle.tap_safety.specs.Notices.{HasOneNotice, IsAwaiting, IsBetween, IsGoneLeaver, IsNotice, IsNoticeless, LeavesNotices, Notices, UntilRest}
 use Rattle.tap_safety.specs.Exchanges.{IsSent, numbered_from}
 use Rattle.tap_safety.specs.Ties.{link_in, link_of, status_in, status_of}
@@ -41,7 +41,7 @@ delivered_so s number (Some frame) = by (s.node frame.to)
   where
     by : (node : Option NodeState) → UntilRest s (received s number frame node)
     by None = departing_so (without_number s number).frames s.departing
-    by (Some node) = departing_so (has_taken s number frame node (act node (Takes frame))).frames s.departing
+    by (Some node) = departing_so (with_taken s number frame node (act node (Takes frame))).frames s.departing
 
 pub until_rest_law : DepartsUntilRest
 unfolding moved

@@ -13,7 +13,7 @@ use Rattle.tap_safety.specs.Departing.{Departure}
 use Rattle.tap_safety.specs.FrameSteps.{TakesFrame}
 use Rattle.tap_rule.specs.Act.{act}
 use Rattle.tap_rule.specs.Event.Event.{Takes}
-use Rattle.tap_safety.specs.Moved.{delivered, departing_with, has_taken, moved, numbered_frame, received, without_number}
+use Rattle.tap_safety.specs.Moved.{delivered, departing_with, moved, numbered_frame, received, with_taken, without_number}
 use Rattle.tap_safety.specs.Notices.{AreNoNotices, IsAtPeace, IsAwaiting, IsNotice, Notices}
 use Rattle.tap_safety.specs.Soft.{AddsSoundLinks}
 use Rattle.tap_safety.specs.Ties.{status_of}
@@ -36,7 +36,7 @@ delivered_none s number (Some frame) none = by (s.node frame.to)
   where
     by : (node : Option NodeState) → (received s number frame node).departing ≡ None
     by None = departing_none (without_number s number).frames s.departing none
-    by (Some node) = departing_none (has_taken s number frame node (act node (Takes frame))).frames s.departing none
+    by (Some node) = departing_none (with_taken s number frame node (act node (Takes frame))).frames s.departing none
 
 pub peace_kept : PeaceIsKept
 unfolding moved

@@ -49,9 +49,9 @@ words_with last x sent = with_at last x (λ t. last_after sent t (last x t))
 
 -- ---- moves
 
--- a node has done this: it is in its new state, and what it sends is under way
-abbrev pub has_acted : System → List ℕ → Acted → System
-has_acted s x acted = record s {
+-- the system once a node has done this: the node is in its new state, and what it sends is under way
+abbrev pub with_acted : System → List ℕ → Acted → System
+with_acted s x acted = record s {
   node = with_at s.node x (Some acted.state);
   frames = s.frames ++ numbered_from s.next acted.sent;
   next = s.next + length acted.sent;
@@ -77,10 +77,11 @@ departing_by node x Leave departing =
     Some (record { name = x; links = λ t. link_to node t; holders = holders_on node.ties })
 departing_by node x other departing = departing
 
-abbrev pub has_begun : System → List ℕ → Start → Option NodeState → System
-has_begun s x start None = s
-has_begun s x start (Some node) =
-    until_rest (record (has_acted s x (act node (Starts start))) { departing = departing_by node x start s.departing })
+-- the system once a node has started this, if there is such a node
+abbrev pub with_begun : System → List ℕ → Start → Option NodeState → System
+with_begun s x start None = s
+with_begun s x start (Some node) =
+    until_rest (record (with_acted s x (act node (Starts start))) { departing = departing_by node x start s.departing })
 
 -- the taking of a frame, and what is then remembered of sessions and surrogates
 abbrev pub taking : System → ℕ → Frame → NodeState → Acted → Taking
@@ -102,14 +103,15 @@ with_joins s t = record s {
 abbrev pub without_number : System → ℕ → System
 without_number s number = record s { frames = without_frame number s.frames }
 
-abbrev pub has_taken : System → ℕ → Frame → NodeState → Acted → System
-has_taken s number frame node acted =
-    until_rest (with_joins (has_acted (without_number s number) frame.to acted) (taking s number frame node acted))
+-- the system once a node has taken the frame of this number
+abbrev pub with_taken : System → ℕ → Frame → NodeState → Acted → System
+with_taken s number frame node acted =
+    until_rest (with_joins (with_acted (without_number s number) frame.to acted) (taking s number frame node acted))
 
 -- a frame whose receiver is no node goes, and does nothing: a move is for one whose receiver is a node
 abbrev pub received : System → ℕ → Frame → Option NodeState → System
 received s number frame None = until_rest (without_number s number)
-received s number frame (Some node) = has_taken s number frame node (act node (Takes frame))
+received s number frame (Some node) = with_taken s number frame node (act node (Takes frame))
 
 abbrev pub delivered : System → ℕ → Option Frame → System
 delivered s number None = s
@@ -117,7 +119,7 @@ delivered s number (Some frame) = received s number frame (s.node frame.to)
 
 -- the system after a move
 unfoldable pub moved : SettingsValue → System → Move → System
-moved p s (Begins x start) = has_begun s x start (starter p s x start)
+moved p s (Begins x start) = with_begun s x start (starter p s x start)
 moved p s (Delivers number) = delivered s number (numbered_frame number s.frames)
 
 -- x is left so and has sent these: no other node and no other's words change

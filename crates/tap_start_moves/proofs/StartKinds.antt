@@ -25,7 +25,7 @@ use Rattle.tap_rule.proofs.StartSteps.{give_up_law, seek_start_law}
 use Rattle.tap_safety.specs.FrameSteps.{StartsJoin}
 use Rattle.tap_safety.specs.Invariant.{Basis}
 use Rattle.tap_safety.specs.Move.{MayAct, MayGiveUp, MayJoin, may_start}
-use Rattle.tap_safety.specs.Moved.{IsStarted, departing_by, departing_with, has_acted, has_begun, moved, starter}
+use Rattle.tap_safety.specs.Moved.{IsStarted, departing_by, departing_with, moved, starter, with_acted, with_begun}
 use Rattle.tap_safety.specs.Remembered.{Leaver}
 use Rattle.tap_safety.specs.SeekerSteps.{seek_frame}
 use Rattle.tap_safety.specs.Exchanges.{ChangesAt, IsSent}
@@ -63,10 +63,10 @@ same_departing node x (Cast cast level word) departing stays = refl
 
 -- so nobody departs after such a start
 begun_none : (s : System) (x : List ℕ) (start : Start) (node : Option NodeState) → IsNoDeparture start → s.departing ≡ None
-    → (has_begun s x start node).departing ≡ None
+    → (with_begun s x start node).departing ≡ None
 begun_none s x start None stays none = none
 begun_none s x start (Some node) stays none =
-    departing_none (has_acted s x (act node (Starts start))).frames (departing_by node x start s.departing)
+    departing_none (with_acted s x (act node (Starts start))).frames (departing_by node x start s.departing)
     (same_departing node x start s.departing stays ∙ none)
 
 started_none : (p : SettingsValue) (s : System) (x : List ℕ) (start : Start) → IsNoDeparture start → s.departing ≡ None
