@@ -1,13 +1,14 @@
 -- The headline of each log of a carried run, however far the run has come and however it has ended.
 --
 -- Rule: docs/FORMATS.md, "The course of a run" and "The ways a run ends".
-use Rattle.std.specs.Prelude.{◌≡◌, ◌⊎◌, ◌+◌, ◌*◌, ◌<◌, ◌≤◌, ℕ, true, List, ◌∷◌, ◌++◌, length, take}
+use Rattle.std.specs.Prelude.{◌≡◌, ◌⊎◌, ◌<◌, ◌≤◌, ℕ, true, List, ◌∷◌, ◌++◌, length, take}
 use Rattle.tap_scenario.specs.Scenario.{ScenarioValue}
 use Rattle.tap_log.specs.declared.record.Record.{Record}
 use Rattle.tap_log.specs.declared.record.Record.TheVariants.{Taken}
 use Rattle.tap_log.specs.Counts.{packet_count, sent_count}
 use Rattle.tap_log.specs.Reduced.{reduced}
 use Rattle.tap_history.specs.Moments.{is_moment, is_rest}
+use Rattle.tap_packets.specs.Bounds.{most_made}
 use Rattle.tap_packets.specs.MayCome.{HasJustArrived}
 use Rattle.tap_packets.specs.PacketLaws.{times_taken}
 use Rattle.tap_carried.specs.ReducedLogs.{AgreesWithReduced}
@@ -43,9 +44,9 @@ IsAllTakenAtRest log = is_rest log ≡ true → (frame : ℕ) → frame < sent_c
 abbrev pub AreTakenFromPackets : List Record → Type 0
 AreTakenFromPackets log = (before after : List Record) (frame : ℕ) → log ≡ before ++ Taken frame ∷ after → HasJustArrived before frame
 
--- packets: at most two for each frame that may be sent, two for each step, and 200,000
+-- packets: at most two for each frame that may be sent, two for each step, and two for each packet that steps may make once more
 abbrev pub MakesFewPackets : ScenarioValue → List Record → Type 0
-MakesFewPackets s log = packet_count log ≤ 2 * s.frames + 2 * length s.steps + 200000
+MakesFewPackets s log = packet_count log ≤ most_made s.frames (length s.steps)
 
 -- What holds of the log of a carried run. Up to each moment of it, its reduced log has the headline, as that of a run without packets has it; the
 -- moment is one of the reduced log, a rest is a rest; and both say the same of frames, nodes and pairs, and refuse the same starts and

@@ -11,7 +11,7 @@ use Rattle.tap_history.specs.Moments.{has_number, outstanding}
 use Rattle.tap_history.specs.Refusals.{first_refusal}
 use Rattle.tap_history.proofs.Ends.{log_in_groups_holds}
 use Rattle.tap_history.proofs.Parts.{groups_of-group}
-use Rattle.tap_packets.specs.Bounds.{MayMove, MayMoves, clock_of, counts_of, measure}
+use Rattle.tap_packets.specs.Bounds.{MayMove, MayMoves, clock_of, counts_of, measure, most_made}
 use Rattle.tap_packets.specs.Groups.{AreCarrierMoves, CarrierMove, group_of, log_after}
 use Rattle.tap_packets.specs.Groups.CarrierMove.{Ticks}
 use Rattle.tap_packets.specs.MayCome.{MayCome}
@@ -160,10 +160,10 @@ module _ (s : ScenarioValue) (script : IsCarriedScript s) where
       subst (λ g. measure s.frames (clock_of steps (log ++ g)) (counts_of (log ++ g)) < measure s.frames (clock_of steps log) (counts_of log))
       next.is falls
 
-  pub few_packets : (log : List Record) → IsCarriedPlayed s log → packet_count log ≤ 2 * s.frames + 2 * steps + 200000
+  pub few_packets : (log : List Record) → IsCarriedPlayed s log → packet_count log ≤ most_made s.frames steps
   few_packets log played =
       let far = carried_so_far log played in
-      subst (λ l. packet_count l ≤ 2 * s.frames + 2 * steps + 200000) (sym far.is) (runs_end_holds.few s.settings s.members steps s.frames far.moves far.may)
+      subst (λ l. packet_count l ≤ most_made s.frames steps) (sym far.is) (runs_end_holds.few s.settings s.members steps s.frames far.moves far.may)
 
   pub few_groups : (log : List Record) → IsCarriedPlayed s log → length (groups_of log) ≤ 2 * steps + 2 * packet_count log
   few_groups log played =

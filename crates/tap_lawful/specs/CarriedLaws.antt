@@ -7,7 +7,7 @@ use Rattle.tap_log.specs.Counts.{packet_count, sent_count}
 use Rattle.tap_log.specs.Log.{EachRecord, begun_steps}
 use Rattle.tap_history.specs.Groups.{groups_of}
 use Rattle.tap_history.specs.Moments.{is_moment}
-use Rattle.tap_packets.specs.Bounds.{MayMove, clock_of, counts_of, measure}
+use Rattle.tap_packets.specs.Bounds.{MayMove, clock_of, counts_of, measure, most_made}
 use Rattle.tap_packets.specs.Groups.{CarrierMove, group_of}
 use Rattle.tap_packets.specs.MayCome.{MayCome}
 use Rattle.tap_carried.specs.LogTurns.{IsLogOfTurns, beginning_records}
@@ -47,7 +47,7 @@ pub record CarriedGroupsMove : Type 0 where
       → carried_next_group s log ≡ Some group → sent_count (log ++ group) ≤ s.frames
       → measure_of s (log ++ group) < measure_of s log
   pub packets : (s : ScenarioValue) (log : List Record) → IsCarriedScript s → IsCarriedPlayed s log
-      → packet_count log ≤ 2 * s.frames + 2 * length s.steps + 200000
+      → packet_count log ≤ most_made s.frames (length s.steps)
   pub groups : (s : ScenarioValue) (log : List Record) → IsCarriedScript s → IsCarriedPlayed s log
       → length (groups_of log) ≤ 2 * length s.steps + 2 * packet_count log
 

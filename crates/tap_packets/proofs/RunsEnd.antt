@@ -6,7 +6,7 @@ use Rattle.tap_log.specs.declared.record.Record.{Record}
 use Rattle.tap_log.specs.Kinds.{sent_number, ended_number, packet_number}
 use Rattle.tap_log.specs.Counts.{packet_count}
 use Rattle.tap_history.specs.Moments.{has_number, outstanding}
-use Rattle.tap_packets.specs.Bounds.{Counts, counts_of, Changes, one_when, ArrivalChanges, TickChanges, IsEffect, Clock, clock_of, BeginsStep, IsDueTick, IsSettlingTick, IsTurn, measure, packet_bound, AreFewGroups, MayMoves}
+use Rattle.tap_packets.specs.Bounds.{Counts, counts_of, Changes, one_when, ArrivalChanges, TickChanges, IsEffect, Clock, clock_of, BeginsStep, IsDueTick, IsSettlingTick, IsTurn, measure, most_made, packet_bound, AreFewGroups, MayMoves}
 use Rattle.tap_packets.specs.Groups.{CarrierMove, group_of, IsCarrierMove, log_after}
 use Rattle.tap_packets.specs.PacketLaws.{carried_beginning, MovesCost, RunsEnd}
 use Rattle.tap_packets.specs.Packets.{frames_sent, made_packet}
@@ -150,7 +150,7 @@ module _ (settings : SettingsValue) (members : List (List ℕ)) (steps most : �
   start-kept : Keeps start
   start-kept = keeps-all start (beginning-comes settings most members)
 
-  pub run-few : MayMoves steps most start moves → packet_count (log_after start moves) ≤ 2 * most + 2 * steps + 200000
+  pub run-few : MayMoves steps most start moves → packet_count (log_after start moves) ≤ most_made most steps
   run-few are =
       let all = run-packets steps most start moves start-kept are in
       let none = nothing-yet in

@@ -146,6 +146,11 @@ packet_bound most clock counts =
     counts.made + 2 * (most - counts.sent) + counts.carrying + 2 * counts.stranded
     + 2 * (most_resent - clock.resent) + 2 * clock.left
 
+-- How many packets a run makes at most that may send so many frames and has so many steps: two for each frame, two for each step, and two for
+-- each packet that its `tick` and `repeat` steps may make.
+abbrev pub most_made : ℕ → ℕ → ℕ
+most_made frames steps = 2 * frames + 2 * steps + 2 * most_resent
+
 -- the measure falls, and the bound doesn't rise
 pub record FallsAt (most : ℕ) (clock clock_after : Clock) (before after : Counts) : Type 0 where
   pub falls : measure most clock_after after < measure most clock before

@@ -18,7 +18,7 @@ use Rattle.tap_packets.specs.Groups.{AreCarrierMoves, IsCarrierMove, CarrierMove
 use Rattle.tap_packets.specs.Sequence.{Way, sent_way, sequence_in, has_sequence, way_at, way_between, frame_ways}
 use Rattle.tap_packets.specs.MayCome.{HasJustArrived, KeepsPackets, MayCome}
 use Rattle.tap_packets.specs.Matching.{no_frames, no_packets, AreSenders, ChangesAlong, Inboxes, InboxesAfter, InboxesMatch, NetAfter, NetMatches, Outboxes, OutboxesAfter, OutboxesMatch, data_packet_of, frames_kept, numbered_along, packet_along}
-use Rattle.tap_packets.specs.Bounds.{AreFewGroups, Clock, Counts, FallsAt, IsAllowed, IsEffect, IsTurn, MayMoves, clock_of, counts_of, measure, packet_bound}
+use Rattle.tap_packets.specs.Bounds.{AreFewGroups, Clock, Counts, FallsAt, IsAllowed, IsEffect, IsTurn, MayMoves, clock_of, counts_of, measure, most_made, packet_bound}
 
 -- of the frames sent, no two have one way and one sequence number
 abbrev pub SequenceTells : Type 0
@@ -138,7 +138,7 @@ pub record RunsEnd : Type 0 where
       → packet_count (log_after log moves) ≤ packet_bound most (clock_of steps log) (counts_of log)
   pub few : (settings : SettingsValue) (members : List (List ℕ)) (steps most : ℕ) (moves : List CarrierMove)
       → (let log = carried_beginning settings most members in
-      MayMoves steps most log moves → packet_count (log_after log moves) ≤ 2 * most + 2 * steps + 200000)
+      MayMoves steps most log moves → packet_count (log_after log moves) ≤ most_made most steps)
   pub groups : (settings : SettingsValue) (members : List (List ℕ)) (steps most : ℕ) (moves : List CarrierMove)
       → (let log = carried_beginning settings most members in
       MayMoves steps most log moves → length moves ≤ 2 * steps + 2 * packet_count (log_after log moves))
