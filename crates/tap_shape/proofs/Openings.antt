@@ -1,50 +1,63 @@
 -- The opening of a text, line by line, and what a reader knows that takes its lines and passes over the others.
-use Rattle.std.proofs.Common.{◌≡◌, ℕ, ◌+◌, ◌==◌, Bool, true, false, List, [], ◌∷◌, ◌++◌, Option, None, Some, option_map, refl, ap, sym, subst, ◌∙◌, inl, inr, append-nil, append_assoc}
+use Rattle.std.proofs.Common.{◌≡◌, ℕ, suc, ◌+◌, ◌==◌, Bool, true, false, not, cond, List, [], ◌∷◌, ◌++◌, take, filter, Option, None, Some, option_map, refl, ap, sym, subst, ◌∙◌, inl, inr, append_assoc, arith}
 use Rattle.std.specs.Prelude.{if◌then◌else◌, map, IfOk, IfSome, Result, Ok, Err}
-use Rattle.std.specs.List.{concat}
+use Rattle.std.specs.List.{before_first, concat, slice_split}
 use Rattle.std.proofs.lemmas.Bool.{cases_Bool}
-use Rattle.std.proofs.lemmas.List.Elements.{All-head, All-nil, All-tail}
+use Rattle.std.proofs.lemmas.List.Elements.{All-nil}
+use Rattle.std.proofs.lemmas.List.Splits.{slice_split_at}
+use Rattle.std.proofs.lemmas.List.Sums.{take_while-cons}
 use Rattle.tap_log.specs.Log.{LogValue}
 use Rattle.tap_log.specs.declared.record.Record.{Record}
 use Rattle.tap_line.specs.Laws.{HasNoFeed}
 use Rattle.tap_report.specs.Shapes.{line}
 use Rattle.tap_shape.specs.declared.reader.Begun.{Begun}
-use Rattle.tap_shape.specs.Opening.{ends, lines_after, opening, later_opening, opening_lines, opening_texts, opens}
+use Rattle.tap_shape.specs.Opening.{ends, lines_in, opening, later_opening, opening_lines, opening_texts, opens}
 use Rattle.tap_shape.specs.Reader.{HasBegun, finished, if_taken, text_taken}
-use Rattle.tap_shape.specs.Text.{IsTextOf}
+use Rattle.tap_shape.specs.Text.{IsTextOf, line_count}
 use Rattle.tap_shape.proofs.Accepts.{start}
 use Rattle.tap_shape.proofs.Exact.{Reads, ended_log, ended_not, reads_more, reads_start, refused_line}
 use Rattle.tap_shape.proofs.Taking.{refused_by, taken_by}
+use Rattle.tap_shape.proofs.Texts.{count_none, count_of}
 
 -- ---- lines
 
-abbrev Unfed : ℕ → Type 0
-Unfed byte = (byte == 10) ≡ false
-
 -- a text with a line feed is a line, and those after it follow
-feed_lines : (begun text rest : List ℕ) → HasNoFeed text → lines_after begun (text ++ 10 ∷ rest) ≡ (begun ++ text) ∷ lines_after [] rest
-feed_lines begun [] rest none = ap (λ t. t ∷ lines_after [] rest) (sym (append-nil begun))
-feed_lines begun (byte ∷ text) rest none =
-    ap (λ b. if b then begun ∷ lines_after [] (text ++ 10 ∷ rest) else lines_after (begun ++ byte ∷ []) (text ++ 10 ∷ rest))
-    (All-head Unfed byte text none)
-    ∙ feed_lines (begun ++ byte ∷ []) text rest (All-tail Unfed byte text none)
-    ∙ ap (λ t. t ∷ lines_after [] rest) (append_assoc begun (byte ∷ []) text)
+feed_lines : (text rest : List ℕ) → HasNoFeed text → lines_in (text ++ 10 ∷ rest) ≡ text ∷ lines_in rest
+feed_lines text rest none =
+    ap (take (line_count (text ++ 10 ∷ rest))) (slice_split_at (λ byte. byte == 10) text 10 rest none refl)
+    ∙ with_first (line_count (text ++ 10 ∷ rest)) (count_of text rest none)
+  where
+    with_first : (n : ℕ) → n ≡ 1 + line_count rest → take n (text ∷ slice_split (λ byte. byte == 10) rest) ≡ text ∷ lines_in rest
+    with_first n e =
+        let next : n ≡ suc (line_count rest) = omega (arith, e) in
+        ap (λ k. take k (text ∷ slice_split (λ byte. byte == 10) rest)) next
 
 -- a rest without one is none
-no_lines : (begun rest : List ℕ) → HasNoFeed rest → lines_after begun rest ≡ []
-no_lines begun [] none = refl
-no_lines begun (byte ∷ rest) none =
-    ap (λ b. if b then begun ∷ lines_after [] rest else lines_after (begun ++ byte ∷ []) rest) (All-head Unfed byte rest none)
-    ∙ no_lines (begun ++ byte ∷ []) rest (All-tail Unfed byte rest none)
+no_lines : (rest : List ℕ) → HasNoFeed rest → lines_in rest ≡ []
+no_lines rest none = ap (λ n. take n (slice_split (λ byte. byte == 10) rest)) (count_none rest none)
+
+-- what a first line more makes of the opening
+opening-cons : (text : List ℕ) (texts : List (List ℕ))
+    → opening_texts (text ∷ texts)
+    ≡ (if ends text then [] else (if opens text then text ∷ opening_texts texts else opening_texts texts))
+opening-cons text texts = ap (filter opens) (take_while-cons (λ t. not (ends t)) text texts) ∙ by (ends text)
+  where
+    by : (b : Bool) → filter opens (cond (not b) (text ∷ before_first ends texts) [])
+        ≡ (if b then [] else (if opens text then text ∷ opening_texts texts else opening_texts texts))
+    by true = refl
+    by false = refl
 
 module _ (text rest : List ℕ) (none : HasNoFeed text) where
   -- the first line is of the opening
   pub opening_first : opening (text ++ 10 ∷ rest) ≡ text ++ 10 ∷ later_opening rest
-  opening_first = ap opening_lines (feed_lines [] text rest none) ∙ append_assoc text (10 ∷ []) (later_opening rest)
+  opening_first = ap opening_lines (feed_lines text rest none) ∙ append_assoc text (10 ∷ []) (later_opening rest)
 
   -- a later one, by what it begins with
-  later : later_opening (text ++ 10 ∷ rest) ≡ concat (map line (opening_texts (text ∷ lines_after [] rest)))
-  later = ap (λ l. concat (map line (opening_texts l))) (feed_lines [] text rest none)
+  later : later_opening (text ++ 10 ∷ rest)
+      ≡ concat (map line (if ends text then [] else (if opens text then text ∷ opening_texts (lines_in rest) else opening_texts (lines_in rest))))
+  later =
+      ap (λ l. concat (map line (opening_texts l))) (feed_lines text rest none)
+      ∙ ap (λ l. concat (map line l)) (opening-cons text (lines_in rest))
 
   pub opening_ended : ends text ≡ true → later_opening (text ++ 10 ∷ rest) ≡ []
   opening_ended ended = later ∙ rw ended refl
@@ -57,10 +70,10 @@ module _ (text rest : List ℕ) (none : HasNoFeed text) where
   opening_passed goes other = later ∙ rw (goes, other) refl
 
 pub opening_over : (rest : List ℕ) → HasNoFeed rest → later_opening rest ≡ []
-opening_over rest none = ap (λ l. concat (map line (opening_texts l))) (no_lines [] rest none)
+opening_over rest none = ap (λ l. concat (map line (opening_texts l))) (no_lines rest none)
 
 pub no_opening : (bytes : List ℕ) → HasNoFeed bytes → opening bytes ≡ []
-no_opening bytes none = ap opening_lines (no_lines [] bytes none)
+no_opening bytes none = ap opening_lines (no_lines bytes none)
 
 -- ---- a reader of the opening
 

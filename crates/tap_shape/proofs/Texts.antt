@@ -117,13 +117,13 @@ first_and_next (t ∷ ts) text rest fit none =
 pub count-cons : (byte : ℕ) (bytes : List ℕ) → line_count (byte ∷ bytes) ≡ cond (byte == 10) 1 0 + line_count bytes
 count-cons byte bytes = sum_by-cons (λ b. cond (b == 10) 1 0) byte bytes
 
-count_none : (rest : List ℕ) → HasNoFeed rest → line_count rest ≡ 0
+pub count_none : (rest : List ℕ) → HasNoFeed rest → line_count rest ≡ 0
 count_none [] none = refl
 count_none (byte ∷ rest) none =
     count-cons byte rest ∙ ap (λ b. cond b 1 0 + line_count rest) (All-head Unfed byte rest none)
     ∙ (let later = count_none rest (All-tail Unfed byte rest none) in omega (arith, later))
 
-count_of : (text more : List ℕ) → HasNoFeed text → line_count (text ++ 10 ∷ more) ≡ 1 + line_count more
+pub count_of : (text more : List ℕ) → HasNoFeed text → line_count (text ++ 10 ∷ more) ≡ 1 + line_count more
 count_of [] more none = count-cons 10 more
 count_of (byte ∷ text) more none =
     count-cons byte (text ++ 10 ∷ more) ∙ ap (λ b. cond b 1 0 + line_count (text ++ 10 ∷ more)) (All-head Unfed byte text none)
