@@ -5,7 +5,6 @@ use Rattle.tap_name.specs.Names.{has_name}
 use Rattle.tap_name.specs.declared.slot.Offered.{Offered}
 use Rattle.tap_session.specs.declared.parent.Parent.{Parent}
 use Rattle.tap_session.specs.declared.parent.Parent.TheVariants.{Node}
-use Rattle.tap_session.specs.Session.{Session}
 use Rattle.tap_session.specs.Sessions.{next_session}
 use Rattle.tap_multicast.specs.declared.covers.Covered.{Covered}
 use Rattle.tap_multicast.specs.declared.covers.Covered.TheVariants.{Already, Now}

@@ -1,5 +1,5 @@
 -- Names, and pairs of a name and a number, as keys: a query finds a key exactly if they are the same.
-use Rattle.std.proofs.Common.{◌≡◌, ℕ, true, false, Bool, nat_eq, ◌&&◌, List, [], ◌∷◌, map, slice_get, Option, Some, unwrap_or, refl, sym, ap, ◌∙◌, cond, true≢false, if◌then◌else◌}
+use Rattle.std.proofs.Common.{◌≡◌, ℕ, true, false, Bool, nat_eq, ◌&&◌, List, [], ◌∷◌, slice_get, Option, Some, unwrap_or, refl, sym, ap, ◌∙◌, cond, true≢false, if◌then◌else◌}
 use Rattle.std.specs.List.{list_any}
 use Rattle.std.specs.Map.{keys_of, lookup, lookup_key}
 use Rattle.std.specs.Option.{option_map}

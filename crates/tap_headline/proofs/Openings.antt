@@ -1,10 +1,10 @@
 -- The first record of the group that comes next in a carried run: a step begins, a packet arrives, or it is a tick.
-use Rattle.std.proofs.Common.{◌≡◌, ◌≢◌, ◌⊎◌, inl, inr, ℕ, ◌+◌, true, List, [], ◌∷◌, None, Some, refl, ◌∙◌}
+use Rattle.std.proofs.Common.{◌≡◌, ◌⊎◌, inl, inr, ℕ, ◌+◌, true, List, [], ◌∷◌, None, Some, refl, ◌∙◌}
 use Rattle.tap_name.specs.Settings.{SettingsValue}
 use Rattle.tap_scenario.specs.declared.step.Step.{Step}
 use Rattle.tap_scenario.specs.Scenario.{ScenarioValue}
 use Rattle.tap_log.specs.declared.record.Record.{Record}
-use Rattle.tap_log.specs.declared.record.Record.TheVariants.{Arrived, Carrier, Spent, Step as StepRecord, Ticked}
+use Rattle.tap_log.specs.declared.record.Record.TheVariants.{Arrived, Spent, Step as StepRecord, Ticked}
 use Rattle.tap_log.specs.Counts.{packet_count}
 use Rattle.tap_log.specs.Kinds.{begins_group, packet_number, sent_number, taken_number}
 use Rattle.tap_log.specs.Log.{begun_steps}
@@ -63,13 +63,6 @@ opening_begins (StepRecord index step) opens = refl
 opening_begins (Arrived packet) opens = refl
 opening_begins Ticked opens = refl
 opening_begins first opens = absurd opens
-
-pub opening_no_carrier : (first : Record) → IsOpening first → first ≢ Carrier
-unfolding IsOpening
-opening_no_carrier (StepRecord index step) opens = λ same. cc
-opening_no_carrier (Arrived packet) opens = λ same. cc
-opening_no_carrier Ticked opens = λ same. cc
-opening_no_carrier first opens = absurd opens
 
 pub opening_sends : (first : Record) → IsOpening first → sent_number first ≡ None
 unfolding IsOpening sent_number

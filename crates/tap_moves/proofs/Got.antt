@@ -1,10 +1,9 @@
 -- What stands at a place of a list is among it: targets, offered links, and frames that are sent; and names are the same or not.
 -- Cited above: all_among, among_all, among_got, offered_got, same_name, sent_among
 pub use Rattle.tap_rule.proofs.Among.{all_among, among_all}
-use Rattle.std.proofs.Common.{◌≡◌, ◌≢◌, ◌⊎◌, ℕ, zero, suc, nat_eq, Bool, List, [], ◌∷◌, All, Some, slice_get, ap, refl, subst, sym, ◌∙◌, inl, inr}
+use Rattle.std.proofs.Common.{◌≡◌, ◌≢◌, ◌⊎◌, ℕ, zero, suc, nat_eq, Bool, List, [], ◌∷◌, Some, slice_get, ap, sym, ◌∙◌, inl, inr}
 use Rattle.std.specs.Cmp.Lexicographic.{pointwise}
 use Rattle.std.proofs.lemmas.Bool.{cases_Bool, true≢false}
-use Rattle.std.proofs.lemmas.List.Elements.{All-cons, All-head, All-nil, All-tail}
 use Rattle.std.proofs.lemmas.Slice.Eq.{bytes_eq-Decides}
 use Rattle.tap_name.specs.declared.slot.Offered.{Offered}
 use Rattle.tap_wire.specs.declared.frame.Body.{Body}

@@ -1,4 +1,4 @@
-ghost use Rattle.std.specs.Prelude.{◌≡◌, None, Ok, Some, ℕ, List as GhostList, IfOk, IfSome, if◌then◌else◌, option_map};
+ghost use Rattle.std.specs.Prelude.{◌≡◌, None, Ok, Some, List as GhostList, IfOk, IfSome, if◌then◌else◌, option_map};
 ghost use Rattle.tap_log.specs.declared.record.Record.{Record};
 ghost use Rattle.tap_shape.specs.Opening.{begins_with, ends, opening, opens};
 ghost use Rattle.tap_shape.specs.Reader.{HasBegun, finished, if_taken, text_taken};

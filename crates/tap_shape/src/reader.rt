@@ -1,4 +1,4 @@
-ghost use Rattle.std.specs.Prelude.{◌≡◌, ◌==◌, ◌+◌, ◌&&◌, nat_lt, Bool, ℕ, IfOk};
+ghost use Rattle.std.specs.Prelude.{◌≡◌, ◌==◌, ◌+◌, ◌&&◌, IfOk};
 ghost use Rattle.tap_name.specs.Names.{has_name};
 ghost use Rattle.tap_scenario.specs.Scenario.{most_frames};
 ghost use Rattle.tap_shape.specs.declared.reader.Open.TheVariants.{Ready};

@@ -1,4 +1,4 @@
-ghost use Rattle.std.specs.Prelude.{◌≡◌, ◌==◌, ◌+◌, ◌-◌, ◌^◌, ◌<◌, ◌≤◌, [], ℕ, length, take, drop, option_map, IfOk, IfSome, Err};
+ghost use Rattle.std.specs.Prelude.{◌≡◌, ◌==◌, ◌+◌, ◌-◌, ◌^◌, ◌<◌, ◌≤◌, ℕ, length, take, drop, option_map, IfOk, IfSome, Err};
 ghost use Rattle.memchr.specs.Find.{IsFirstByte, is_byte};
 ghost use Rattle.tap_shape.specs.declared.fault.LogFault.TheVariants.{NotLog};
 ghost use Rattle.tap_shape.specs.Reader.{HasBegun, Start, ended, first_line, if_taken, line_at, text_taken};
