@@ -1,10 +1,9 @@
 -- What the part of a node does for its status is what the node does.
-use Rattle.std.proofs.Common.{◌≡◌, ◌≢◌, ℕ, false, List, Option, None, Some, refl, sym}
+use Rattle.std.proofs.Common.{◌≡◌, ◌≢◌, ℕ, false, List, Some, refl}
 use Rattle.tap_name.specs.Settings.{SettingsValue}
 use Rattle.tap_session.specs.Session.{SessionsValue}
 use Rattle.tap_wire.specs.declared.frame.Body.{Body}
 use Rattle.tap_wire.specs.declared.frame.Body.TheVariants.{Done, Left}
-use Rattle.tap_rule.specs.Node.{NodeState, Status}
 use Rattle.tap_rule.specs.Node.Status.{Joining as JoiningStatus, Core as CoreStatus, Leaving as LeavingStatus, Gone as GoneStatus, Ceased as CeasedStatus}
 use Rattle.tap_rule.specs.Ceasing.{takes_done}
 use Rattle.tap_rule.specs.Event.{Start}
@@ -23,7 +22,7 @@ use Rattle.tap_leaving_node.specs.declared.leaving_node.LeavingNode.{LeavingNode
 use Rattle.tap_leaving_node.specs.State.{leaving_state}
 use Rattle.tap_node.specs.declared.state.State.{State}
 use Rattle.tap_node.specs.declared.state.State.TheVariants.{Joining, Core, Leaving, Gone, Ceased, Ended}
-use Rattle.tap_node.specs.SeenNode.{FollowsFrom, IsHeldBy, StartsFrom, node_value, state_held}
+use Rattle.tap_node.specs.SeenNode.{FollowsFrom, StartsFrom, node_value, state_held}
 
 module _ (p : SettingsValue) (name : List ℕ) where
   module _ (before after : State) (from : List ℕ) (body : Body) (held sent : List (List ℕ)) (news : News) where

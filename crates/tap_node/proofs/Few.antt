@@ -1,6 +1,6 @@
 -- A frame that isn't strange leaves a node no more links than it may have.
-use Rattle.std.proofs.Common.{◌≡◌, ◌≢◌, ◌⊎◌, ℕ, ◌≤◌, if◌then◌else◌, List, [], ◌∷◌, length, get_or, map, slice_get, Option, None, Some, All, true, false, arith, refl, sym, ap, subst, ◌∙◌, inl, inr}
-use Rattle.std.specs.Prelude.{IfSome, nat_eq, nat_lt}
+use Rattle.std.proofs.Common.{◌≡◌, ◌≢◌, ◌⊎◌, ℕ, ◌≤◌, if◌then◌else◌, List, [], ◌∷◌, length, Some, false, arith, refl, sym, subst, ◌∙◌, inl, inr}
+use Rattle.std.specs.Prelude.{nat_eq, nat_lt}
 use Rattle.std.specs.Cmp.Lexicographic.{pointwise}
 use Rattle.std.proofs.lemmas.Bool.{cases_Bool, ltb-false}
 use Rattle.std.proofs.lemmas.Slice.Eq.{bytes_eq-Decides}
@@ -17,8 +17,7 @@ use Rattle.tap_table.proofs.LookUps.{kind_in-pinned}
 use Rattle.tap_table.proofs.NewLinks.{pinned_rule_new}
 use Rattle.tap_table.proofs.Targets.{linked_is_target, target_is_linked, targets-ascending}
 use Rattle.tap_depart.specs.Leaving.{names_but}
-use Rattle.tap_rule.specs.Node.{NodeState, name_of}
-use Rattle.tap_rule.specs.Strange.{is_too_many, with_names}
+use Rattle.tap_rule.specs.Strange.{with_names}
 use Rattle.tap_node_common.proofs.Rows.{rows_by_name}
 
 -- known names, and further ones, are among them together

@@ -1,27 +1,18 @@
 -- What each step of a node keeps, so that it stays sound.
-use Rattle.std.proofs.Common.{◌≡◌, ◌≢◌, ◌⊎◌, ◌==◌, ℕ, zero, suc, ◌+◌, ◌*◌, ◌≤◌, replicate, Bool, cond, List, [], ◌∷◌, length, map, get_or, Option, Some, None, All, true, false, arith, refl, sym, ap, subst, ◌∙◌, inl, inr}
-use Rattle.std.specs.Prelude.{IfSome, nat_lt}
+use Rattle.std.proofs.Common.{◌≡◌, ◌≢◌, ℕ, zero, suc, ◌+◌, ◌*◌, ◌≤◌, replicate, [], length, map, true, false, arith, refl, sym, ap, ◌∙◌}
 use Rattle.std.specs.List.{enumerate_from, flat_map}
-use Rattle.std.proofs.lemmas.Bool.{or_parts, true≢false}
-use Rattle.std.proofs.lemmas.List.Elements.{All-map, All-nil}
+use Rattle.std.proofs.lemmas.Bool.{true≢false}
+use Rattle.std.proofs.lemmas.List.Elements.{All-nil}
 use Rattle.tap_name.specs.Name.{IsName}
-use Rattle.tap_name.specs.Names.{has_name}
-use Rattle.tap_session.specs.declared.parent.Parent.{Parent}
-use Rattle.tap_session.specs.declared.parent.Parent.TheVariants.{Node, Root as RootParent}
-use Rattle.tap_session.specs.declared.sessions.Answered.{Answered}
-use Rattle.tap_session.specs.declared.sessions.Answered.TheVariants.{Open, Closed, Unknown}
-use Rattle.tap_session.specs.Session.{SessionsValue}
-use Rattle.tap_table.specs.Table.{IsTable, TableValue, rows, rows_of}
+use Rattle.tap_table.specs.Table.{rows, rows_of}
 use Rattle.tap_pointer.specs.Pointers.{PointersValue}
-use Rattle.tap_pointer.specs.Reconcile.{AreLaid, reconciled, with_wanted, wanted_hop}
-use Rattle.tap_wire.specs.declared.frame.Frame.{Frame}
+use Rattle.tap_pointer.specs.Reconcile.{AreLaid, with_wanted, wanted_hop}
 use Rattle.tap_rule.specs.Node.{IsRunning, NodeState, Status, ended, name_of, settings_of}
 use Rattle.tap_rule.specs.Node.Status.{Joining, Core, Leaving, Gone as GoneStatus, Ceased}
-use Rattle.tap_rule.specs.Event.{Acted, Event}
 use Rattle.tap_rule.specs.Reaction.{Reaction}
 use Rattle.tap_rule.specs.Pointers.{with_reconciled}
-use Rattle.tap_rule.specs.Act.{act, carried_out, completed, follows, ignores}
-use Rattle.tap_rule.specs.KeptNode.{IsNode, KeepsNode}
+use Rattle.tap_rule.specs.Act.{carried_out, completed}
+use Rattle.tap_rule.specs.KeptNode.{KeepsNode}
 use Rattle.tap_node_common.proofs.Pairs.{named-reconciled}
 use Rattle.tap_node_common.specs.SoundNode.{HaveParents, IsParent, IsSoundNode, PairsHaveNames, knows_pairs}
 

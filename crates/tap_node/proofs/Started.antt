@@ -1,6 +1,5 @@
 -- The starts of a node, from the steps of its parts.
 use Rattle.std.proofs.Common.{◌≡◌, ℕ, List, Some, refl, subst}
-use Rattle.tap_session.specs.declared.parent.Parent.{Parent}
 use Rattle.tap_session.specs.declared.parent.Parent.TheVariants.{Root}
 use Rattle.tap_pointer.specs.Reconcile.{AreLaid}
 use Rattle.tap_rule.specs.Node.{IsRunning, NodeState, name_of}

@@ -1,7 +1,6 @@
 -- A node that starts to join is sound, and so is each of the members with which an overlay begins.
-use Rattle.std.proofs.Common.{◌≡◌, ◌≢◌, ℕ, zero, ◌+◌, ◌*◌, ◌<◌, ◌≤◌, Bool, List, [], ◌∷◌, length, get_or, map, filter, take, slice_get, Option, Some, None, All, true, false, arith, refl, sym, ap, subst, ◌∙◌, inl, inr}
+use Rattle.std.proofs.Common.{◌≡◌, ◌≢◌, ℕ, ◌+◌, ◌*◌, ◌≤◌, List, [], ◌∷◌, length, get_or, Some, All, true, false, arith, refl, sym, ap, subst, inl, inr}
 use Rattle.std.specs.Prelude.{Contains, nat_eq}
-use Rattle.std.specs.List.{range_with_len}
 use Rattle.std.specs.Cmp.Lexicographic.{pointwise}
 use Rattle.std.proofs.lemmas.Bool.{cases_Bool, cases_lt, true≢false}
 use Rattle.std.proofs.lemmas.List.{get_or_past}
@@ -22,7 +21,7 @@ use Rattle.tap_link.specs.declared.kind.Kind.TheVariants.{Settled}
 use Rattle.tap_link.specs.Entry.{LinkEntry}
 use Rattle.tap_table.specs.ByName.{targets_by_name}
 use Rattle.tap_table.specs.Members.{first_fitting, fitting, is_slot, settled_links, table_at_rest}
-use Rattle.tap_table.specs.Table.{IsTable, SlotLinks, TableValue, kind_in, links_near, rows, slot_numbered}
+use Rattle.tap_table.specs.Table.{IsTable, TableValue, kind_in, links_near, slot_numbered}
 use Rattle.tap_table.proofs.AtRest.{All-filtered, links_at_rest}
 use Rattle.tap_table.proofs.Found.{link_found, link_to, linked_is_other}
 use Rattle.tap_table.proofs.Near.{number_near}

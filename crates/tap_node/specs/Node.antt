@@ -1,13 +1,11 @@
 -- What contracts see of a node, and what its calls answer.
 --
 -- Rule: docs/PROTOCOL.md, "Nodes" and "Steps of a node" and "Refused frames".
-use Rattle.std.specs.Prelude.{◌≡◌, ℕ, ◌||◌, Bool, true, false, if◌then◌else◌, List, length, Option, None, Some, Result, Ok, Err}
-use Rattle.tap_name.specs.Settings.{SettingsValue}
-use Rattle.tap_session.specs.Session.{SessionsValue}
+use Rattle.std.specs.Prelude.{ℕ, ◌||◌, Bool, true, false, if◌then◌else◌, length, Option, None, Some}
 use Rattle.tap_table.specs.Table.{TableValue}
 use Rattle.tap_table.specs.Ties.{holders_on}
 use Rattle.tap_pointer.specs.Pointers.{PointersValue}
-use Rattle.tap_rule.specs.Node.{NodeState, Status, name_of, settings_of}
+use Rattle.tap_rule.specs.Node.{NodeState, Status}
 use Rattle.tap_rule.specs.Node.Status.{Joining, Core, Leaving, Gone, Ceased}
 use Rattle.tap_node_common.specs.SoundNode.{has_numbers_left}
 use Rattle.tap_node.specs.declared.status.NodeStatus.{NodeStatus}

@@ -1,4 +1,4 @@
-use Rattle.std.proofs.Common.{◌≡◌, ◌==◌, ◌∙◌, true, false, length, refl, sym}
+use Rattle.std.proofs.Common.{◌≡◌, ◌==◌, ◌∙◌, false, length, refl, sym}
 use Rattle.tap_depart.specs.Leaving.{names_but}
 use Rattle.tap_rule.specs.Leaving.{finishes}
 use Rattle.tap_rule.specs.Node.Status.{Gone as GoneStatus}
@@ -6,7 +6,7 @@ use Rattle.tap_node_common.specs.declared.news.News.TheVariants.{Gone as GoneNew
 use Rattle.tap_node_common.specs.States.{ended_state}
 use Rattle.tap_node_common.proofs.NumbersLeft.{hops-sound}
 use Rattle.tap_leaving_node.specs.State.{leaving_state}
-use Rattle.tap_node.specs.declared.state.State.TheVariants.{Gone, Leaving}
+use Rattle.tap_node.specs.declared.state.State.TheVariants.{Gone}
 use Rattle.tap_node.proofs.ByStatus.{left_elsewhere, left_from}
 use Rattle.tap_node.proofs.Ends.{ends_as, left_finishes, left_stays, without}
 use Rattle.tap_node.proofs.state.State.after_left.Goals as goal
