@@ -1,4 +1,4 @@
-ghost use Rattle.std.specs.Prelude.{◌≡◌, ◌≤◌, ◌<◌, List, [], map, length, not, slice_get, AllPairs, IsTrue, IfOk, IfSome, OnOk, OnErr};
+ghost use Rattle.std.specs.Prelude.{◌≡◌, ◌≤◌, ◌<◌, List, map, length, not, slice_get, IsTrue, IfOk, IfSome, OnOk, OnErr};
 ghost use Rattle.tap_carry.specs.Inbox.{has_arrived};
 ghost use Rattle.tap_carry.specs.Net.{most_packets, packets_less};
 ghost use Rattle.tap_carry.specs.Outbox.{most_frames};

@@ -1,4 +1,4 @@
-ghost use Rattle.std.specs.Prelude.{◌≡◌, ◌≤◌, ◌<◌, ◌+◌, ◌∷◌, List, [], not, false, length, slice_get, Some, IsTrue, IfOk, IfErr, OnOk, OnErr};
+ghost use Rattle.std.specs.Prelude.{◌≡◌, ◌≤◌, ◌<◌, ◌+◌, ◌∷◌, List, [], not, false, length, slice_get, Some, IsTrue, IfOk, IfErr, OnOk};
 ghost use Rattle.tap_boxes.specs.Boxes.{inbox_of};
 ghost use Rattle.tap_boxes.specs.Changes.{HasAcked, HasArrived, is_awaited};
 ghost use Rattle.tap_carry.specs.Inbox.{has_arrived};

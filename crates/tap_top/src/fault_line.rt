@@ -1,4 +1,3 @@
-ghost use Rattle.std.specs.Prelude.{◌≡◌};
 ghost use Rattle.tap_report.specs.Written.{WritesText};
 ghost use Rattle.tap_top.specs.FaultLine.{fault_line, text_of_fault};
 

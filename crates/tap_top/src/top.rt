@@ -7,7 +7,6 @@ ghost use Rattle.tap_io.specs.Faults.{HasRisen};
 ghost use Rattle.tap_lawful.specs.Runs.{IsLawful};
 ghost use Rattle.tap_replay.specs.Runs.{HasPlayed};
 ghost use Rattle.tap_report.specs.Text.{IsPrintableLog};
-ghost use Rattle.tap_report.specs.declared.mode.Mode.{Mode as ReportMode};
 ghost use Rattle.tap_scenario.specs.Scenario.{IsScript};
 ghost use Rattle.tap_top.specs.Ending.{HasCause, HasCauseOf, HasRunAs, HasRunOf, HasWritten, LeavesWorld, log_of, mode_asked, text_of_run};
 ghost use Rattle.tap_top.specs.FaultLine.{fault_line};
