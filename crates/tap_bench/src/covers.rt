@@ -1,15 +1,15 @@
 ghost use Rattle.std.specs.Prelude.{◌≡◌, All, true};
+ghost use Rattle.tap_name.specs.Name.{IsName};
 ghost use Rattle.tap_multicast.specs.Covers.{MayCover, MayWatch};
 
-use crate::part_calls::Run;
+use crate::clock::Run;
 use crate::part_tables::{empty, link, name_in, same_digits, settings};
-use anyhow::{Context, Result, anyhow, bail};
 use std::alloc::Global;
 use std::rt::Clock;
 use std::time::Instant;
 use tap_link::Kind;
 use tap_multicast::{Covered, Covers};
-use tap_name::Name;
+use tap_name::{Name, Settings};
 use tap_table::Table;
 use tap_watch::Watch;
 
@@ -18,21 +18,24 @@ const LINKS: usize = 255;
 
 /// Has a node cover a joiner for the first time, so many times. The node has 255 links and is the joiner's surrogate: they
 /// share no digit.
-pub(crate) fn cover_first(rt: &(impl AllocGlobal + Clock), digits: u32, count: u32) -> Result<Run> {
-    let digits = if digits == 40 { 40 } else { 8 };
-    let settings = settings(digits)?;
-    let owner = same_digits(&settings, 0)?;
+pub(crate) fn cover_first(rt: &(impl AllocGlobal + Clock), digits: u32, count: u32) -> Option<Run> {
+    let settings = settings(if digits == 40 { 40 } else { 8 })?;
     let joiner = same_digits(&settings, 15)?;
-    let mut table = empty(rt.alloc(), &settings, owner)?;
-    link(&mut table, joiner, false)?;
-    fill(&mut table, digits as usize)?;
-    let watch = Watch::full(rt.alloc(), &joiner, &settings, 0).map_err(|_| anyhow!("no memory"))?;
-    let start = Instant::now(rt)?;
+    let table = surrogate_of(rt.alloc(), &settings, joiner)?;
+    let watch = Watch::full(rt.alloc(), &joiner, &settings, 0).ok()?;
+    let start = Instant::now(rt).ok()?;
     let gave = covers_of_pinned(rt.alloc(), &table, joiner, &watch, count)?;
-    Ok(Run {
-        gave,
-        nanoseconds: start.elapsed(rt)?.as_nanos(),
-    })
+    Run::since(rt, start, gave)
+}
+
+// The table of the name of zeros with a pin on the joiner, and 255 links in all.
+fn surrogate_of(alloc: Global, settings: &Settings, joiner: Name) -> Option<Table>
+    requires { IsName settings.now joiner }
+{
+    let mut table = empty(alloc, settings, same_digits(settings, 0)?)?;
+    link(&mut table, joiner, false)?;
+    fill(&mut table, settings.digits() as usize)?;
+    Some(table)
 }
 
 // Sees that the joiner is pinned and the watch is of level 0, and covers the joiner first, so many times.
@@ -42,30 +45,28 @@ fn covers_of_pinned(
     joiner: Name,
     watch: &Watch,
     count: u32,
-) -> Result<u64> {
+) -> Option<u64> {
     if table.kind_of(joiner) != Some(Kind::Pin) {
-        bail!("no pin on the joiner");
+        return None;
     }
     let settings = table.settings();
     if !is_of_level_0(watch, settings.base()) {
-        bail!("a watch of other levels");
+        return None;
     }
     covers_of(alloc, table, joiner, watch, count)
 }
 
 // Covers a joiner first, so many times, and says how many links were offered and nodes told.
-fn covers_of(alloc: Global, table: &Table, joiner: Name, watch: &Watch, count: u32) -> Result<u64>
+fn covers_of(alloc: Global, table: &Table, joiner: Name, watch: &Watch, count: u32) -> Option<u64>
     requires { MayCover table.now watch.now joiner 0 0 }
 {
     let mut gave = 0u64;
     for _turn in 0..count {
         let mut covers = Covers::new(alloc);
-        let covered = covers
-            .cover(joiner, 0, 0, watch, table)
-            .map_err(|_| anyhow!("no memory"))?;
-        gave = gave.saturating_add(given(covered).context("covered before")?);
+        let covered = covers.cover(joiner, 0, 0, watch, table).ok()?;
+        gave = gave.saturating_add(given(covered)?);
     }
-    Ok(gave)
+    Some(gave)
 }
 
 // How many links a cover offers and nodes it tells.
@@ -82,10 +83,10 @@ fn given(covered: Covered) -> Option<u64> {
 }
 
 // Adds links in all slots in turn until there are 255: up to two settled ones in a slot, and then pins.
-fn fill(table: &mut Table, digits: usize) -> Result<()> {
+fn fill(table: &mut Table, digits: usize) -> Option<()> {
     for number in 0..2048usize {
         if table.len() == LINKS {
-            return Ok(());
+            return Some(());
         }
         let place = number / digits.max(1);
         let turn = place / 15;
@@ -98,7 +99,7 @@ fn fill(table: &mut Table, digits: usize) -> Result<()> {
         )?;
         link(table, name, turn < 2)?;
     }
-    bail!("too few links")
+    None
 }
 
 // Whether each slot of a watch has level 0 and a digit below the base.

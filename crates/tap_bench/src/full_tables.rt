@@ -1,8 +1,7 @@
-ghost use Rattle.std.specs.Prelude.{◌≡◌, ◌≢◌, OnOk, IfOk};
+ghost use Rattle.std.specs.Prelude.{◌≡◌, ◌≢◌, OnSome, IfSome};
 ghost use Rattle.tap_name.specs.Name.{IsName};
 ghost use Rattle.tap_bench.specs.Settings.{measured};
 
-use anyhow::{Context, Result, anyhow};
 use std::alloc::Global;
 use tap_link::LinkSet;
 use tap_name::{Name, Settings, Slot};
@@ -17,26 +16,26 @@ pub(crate) fn bytes_of_table() -> usize {
 }
 
 // Offers a table the name of these digits.
-fn offer(table: &mut Table, settings: &Settings, digits: &[u8]) -> Result<()>
+fn offer(table: &mut Table, settings: &Settings, digits: &[u8]) -> Option<()>
     requires measured { settings.now ≡ measured }
     requires table { table.old.settings ≡ measured }
     ensures { table.new.settings ≡ measured }
 {
-    let name = Name::from_digits(settings, digits).map_err(|_| anyhow!("a name"))?;
+    let name = Name::from_digits(settings, digits).ok()?;
     if name != table.owner() {
-        table.offer(name).map_err(|_| anyhow!("no memory"))?;
+        table.offer(name).ok()?;
     }
-    Ok(())
+    Some(())
 }
 
 /// The table of the name of eight zeros, base 16 and width 2, with two links in each slot that two names fit, and one
 /// elsewhere: 225 links.
-pub(crate) fn full(alloc: Global) -> Result<Table>
-    ensures { IfOk result (λ table. table.settings ≡ measured) }
+pub(crate) fn full(alloc: Global) -> Option<Table>
+    ensures { IfSome result (λ table. table.settings ≡ measured) }
 {
-    let settings = Settings::new(16, 8, 2).context("the settings")?;
-    let owner = Name::from_digits(&settings, &[0; 8]).map_err(|_| anyhow!("a name"))?;
-    let mut table = Table::new(alloc, owner, &settings).map_err(|_| anyhow!("no memory"))?;
+    let settings = Settings::new(16, 8, 2)?;
+    let owner = Name::from_digits(&settings, &[0; 8]).ok()?;
+    let mut table = Table::new(alloc, owner, &settings).ok()?;
     for number in 0..SLOTS {
         let mut digits = [0; 8];
         digits[number / 16] = (number % 16) as u8;
@@ -44,7 +43,7 @@ pub(crate) fn full(alloc: Global) -> Result<Table>
         digits[7] = (number % 16) as u8;
         offer(&mut table, &settings, &digits)?;
     }
-    Ok(table)
+    Some(table)
 }
 
 /// Asks how many links there are, so many times, and adds up the answers.
@@ -90,9 +89,9 @@ pub(crate) fn next_hops(table: &Table, object: &Name, count: u32) -> u64
 }
 
 /// The object towards which the next hops go.
-pub(crate) fn object() -> Result<Name>
-    ensures { IfOk result (IsName measured) }
+pub(crate) fn object() -> Option<Name>
+    ensures { IfSome result (IsName measured) }
 {
-    let settings = Settings::new(16, 8, 2).context("the settings")?;
-    Name::from_digits(&settings, &[0, 0, 0, 0, 0, 0, 0, 9]).map_err(|_| anyhow!("a name"))
+    let settings = Settings::new(16, 8, 2)?;
+    Name::from_digits(&settings, &[0, 0, 0, 0, 0, 0, 0, 9]).ok()
 }

@@ -1,10 +1,8 @@
 use crate::names::NEAR;
 use crate::node_frames::OWNER;
 use crate::steps::{Links, Sent, joiner, links_of, member, settings, take};
-use anyhow::{Result, bail};
 use std::alloc::Global;
 use std::collections::VecDeque;
-use tap_name::Settings;
 use tap_node::{Node, Turn};
 use tap_wire::Bytes;
 
@@ -23,7 +21,7 @@ pub(crate) struct Pair {
 }
 
 // Who of a pair takes a frame.
-#[derive(Clone, Copy, Debug)]
+#[derive(Clone, Copy)]
 enum Receiver {
     Member,
     Joiner,
@@ -37,59 +35,57 @@ struct Flight {
 }
 
 /// So many pairs, of which each has the Seek of its joiner under way.
-pub(crate) fn pairs(alloc: Global, count: usize) -> Result<Vec<Pair>> {
+pub(crate) fn pairs(alloc: Global, count: usize) -> Option<Vec<Pair>> {
     let mut pairs = Vec::new(alloc);
     for _number in 0..count {
-        pairs.push(ready_pair(alloc)?)?;
+        pairs.push(ready_pair(alloc)?).ok()?;
     }
-    Ok(pairs)
+    Some(pairs)
 }
 
 // A pair, with the Seek of the joiner under way.
-fn ready_pair(alloc: Global) -> Result<Pair> {
+fn ready_pair(alloc: Global) -> Option<Pair> {
     let settings = settings(3)?;
-    let mut under_way = VecDeque::new(alloc);
-    let joiner = start_join(alloc, &settings, &mut under_way)?;
-    let member = member(alloc, &settings, &NEAR)?;
-    Ok(Pair {
-        member,
+    let (joiner, turn) = joiner(alloc, &settings, &OWNER, &NEAR)?;
+    let mut pair = Pair {
+        member: member(alloc, &settings, &NEAR)?,
         joiner,
-        under_way,
-    })
-}
-
-// A node that has started to join by the member. Its Seek is put under way.
-fn start_join(
-    alloc: Global,
-    settings: &Settings,
-    under_way: &mut VecDeque<Flight>,
-) -> Result<Node> {
-    let (joiner, turn) = joiner(alloc, settings, &OWNER, &NEAR)?;
-    send(under_way, Receiver::Member, turn)?;
-    Ok(joiner)
+        under_way: VecDeque::new(alloc),
+    };
+    send(&mut pair.under_way, Receiver::Member, turn)?;
+    Some(pair)
 }
 
 /// Has each pair take frames until none is under way, and says what they sent.
-pub(crate) fn join_each(pairs: &mut [Pair]) -> Result<Sent> {
+pub(crate) fn join_each(pairs: &mut [Pair]) -> Option<Sent> {
     let mut sent = Sent::nothing();
     for pair in pairs.iter_mut() {
         sent = sent.with(pair.join()?);
     }
-    Ok(sent)
+    Some(sent)
+}
+
+/// The links of all these pairs.
+pub(crate) fn links_of_all(pairs: &[Pair]) -> Links {
+    let mut links = Links::none();
+    for pair in pairs {
+        links = links.with(pair.links());
+    }
+    links
 }
 
 impl Pair {
-    /// The links of both nodes.
-    pub(crate) fn links(&self) -> Links {
+    // The links of both nodes.
+    fn links(&self) -> Links {
         links_of(&self.member).with(links_of(&self.joiner))
     }
 
-    // Takes frames until none is under way, and says what was sent then.
-    fn join(&mut self) -> Result<Sent> {
+    // Takes frames until none is under way, and says what was sent then; none if a frame is refused, or too many are sent.
+    fn join(&mut self) -> Option<Sent> {
         let mut sent = Sent::nothing();
         for _turn in 0..MOST_FRAMES {
             let Some(flight) = self.under_way.pop_front() else {
-                return Ok(sent);
+                return Some(sent);
             };
             sent = sent.with(Sent {
                 frames: 1,
@@ -97,27 +93,24 @@ impl Pair {
             });
             self.deliver(flight)?;
         }
-        bail!("the join doesn't end")
+        None
     }
 
     // Hands a frame to its receiver, and puts what that sends under way to the other one.
-    fn deliver(&mut self, flight: Flight) -> Result<()> {
+    fn deliver(&mut self, flight: Flight) -> Option<()> {
         let bytes = flight.bytes.as_slice();
         let (turn, other) = match flight.to {
             Receiver::Member => (take(&mut self.member, bytes), Receiver::Joiner),
             Receiver::Joiner => (take(&mut self.joiner, bytes), Receiver::Member),
         };
-        let Some(turn) = turn else {
-            bail!("a refused frame");
-        };
-        send(&mut self.under_way, other, turn)
+        send(&mut self.under_way, other, turn?)
     }
 }
 
 // Puts the frames of a step under way.
-fn send(under_way: &mut VecDeque<Flight>, to: Receiver, turn: Turn) -> Result<()> {
+fn send(under_way: &mut VecDeque<Flight>, to: Receiver, turn: Turn) -> Option<()> {
     for bytes in turn.sent.into_frames() {
-        under_way.push_back(Flight { to, bytes })?;
+        under_way.push_back(Flight { to, bytes }).ok()?;
     }
-    Ok(())
+    Some(())
 }

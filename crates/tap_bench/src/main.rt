@@ -5,6 +5,7 @@
 //! Without words it makes each call a few times and prints what that gave, so that the output is always the same.
 #![tactic(auto)]
 
+mod clock;
 mod covers;
 mod full_tables;
 mod hellos;

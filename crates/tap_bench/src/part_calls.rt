@@ -1,16 +1,11 @@
+use crate::clock::Run;
 use crate::{covers, hellos, pairs};
-use anyhow::Result;
+use anyhow::{Context, Result};
+use std::io;
 use std::rt::Clock;
 
-// What so many calls gave, all together, and the nanoseconds that they took.
-#[derive(Clone, Copy, Debug)]
-pub(crate) struct Run {
-    pub(crate) gave: u64,
-    pub(crate) nanoseconds: u128,
-}
-
 // A call, or some that belong together.
-#[derive(Clone, Copy, Debug, PartialEq, Eq)]
+#[derive(Clone, Copy)]
 enum Call {
     Cover,
     Hello,
@@ -26,6 +21,9 @@ const CALLS: [(&str, Call); 5] = [
     ("reconcile-pair", Call::ReconcilePair),
     ("reconcile", Call::Reconcile),
 ];
+
+// Why a call gives nothing.
+const CANNOT: &str = "no memory, or too many pairs";
 
 impl Call {
     // The sizes with which it is made without words.
@@ -47,8 +45,8 @@ impl Call {
     }
 }
 
-// Makes a call so many times.
-fn make(rt: &(impl AllocGlobal + Clock), call: Call, size: u32, count: u32) -> Result<Run> {
+// Makes a call so many times; none if memory is refused, or there are too many pairs.
+fn make(rt: &(impl AllocGlobal + Clock), call: Call, size: u32, count: u32) -> Option<Run> {
     match call {
         Call::Cover => covers::cover_first(rt, size, count),
         Call::Hello => hellos::take_hellos(rt, size, count),
@@ -62,11 +60,16 @@ fn make(rt: &(impl AllocGlobal + Clock), call: Call, size: u32, count: u32) -> R
 pub(crate) fn make_each(rt: &(impl AllocGlobal + Clock + Print)) -> Result<()> {
     for (name, call) in CALLS {
         for size in call.sizes() {
-            let run = make(rt, call, size, 2)?;
-            println!(rt; "{name} {size}: 2 calls gave {} {}", run.gave, call.gives())?;
+            let run = make(rt, call, size, 2).context(CANNOT)?;
+            print_run(rt, name, size, run.gave, call.gives())?;
         }
     }
     Ok(())
+}
+
+// Prints what two calls gave.
+fn print_run(rt: &impl Print, name: &str, size: u32, gave: u64, what: &str) -> io::Result<()> {
+    println!(rt; "{name} {size}: 2 calls gave {gave} {what}")
 }
 
 /// Times the call of this name, if there is one, with this size: of a cover the number of digits, 8 or 40, of a Hello that of its
@@ -79,11 +82,15 @@ pub(crate) fn time(
 ) -> Result<bool> {
     for (name, call) in CALLS {
         if name == wanted {
-            let run = make(rt, call, size, count)?;
-            let each = run.nanoseconds / u128::from(count.max(1));
-            println!(rt; "{name} {size}: {each} ns a call")?;
+            let run = make(rt, call, size, count).context(CANNOT)?;
+            print_time(rt, name, size, run.each(count))?;
             return Ok(true);
         }
     }
     Ok(false)
+}
+
+// Prints the nanoseconds of a call.
+fn print_time(rt: &impl Print, name: &str, size: u32, each: u128) -> io::Result<()> {
+    println!(rt; "{name} {size}: {each} ns a call")
 }

@@ -1,15 +1,14 @@
-ghost use Rattle.std.specs.Prelude.{IfOk};
+ghost use Rattle.std.specs.Prelude.{IfSome};
 ghost use Rattle.tap_name.specs.Name.{IsName};
 
 use crate::node_frames::Digits;
-use anyhow::{Result, anyhow, bail};
 use std::alloc::Global;
 use tap_link::Kind;
 use tap_name::{List, Name, Settings};
 use tap_node::{Node, Turn};
 
 /// What frames gave: how many frames were sent, and of how many bytes.
-#[derive(Clone, Copy, Debug)]
+#[derive(Clone, Copy)]
 pub(crate) struct Sent {
     pub(crate) frames: u64,
     pub(crate) bytes: u64,
@@ -34,7 +33,7 @@ impl Sent {
 }
 
 /// The links of nodes: the pins, and all others.
-#[derive(Clone, Copy, Debug)]
+#[derive(Clone, Copy)]
 pub(crate) struct Links {
     pub(crate) settled: usize,
     pub(crate) pins: usize,
@@ -59,31 +58,23 @@ impl Links {
 }
 
 /// The settings: base 16, 8 digits, and this width, from 1 to 4.
-pub(crate) fn settings(width: u8) -> Result<Settings> {
-    match Settings::new(16, 8, width) {
-        Some(settings) => Ok(settings),
-        None => bail!("the settings"),
-    }
+pub(crate) fn settings(width: u8) -> Option<Settings> {
+    Settings::new(16, 8, width)
 }
 
 // The name of these digits.
-fn name(settings: &Settings, digits: &Digits) -> Result<Name>
-    ensures { IfOk result (IsName settings.now) }
+fn name(settings: &Settings, digits: &Digits) -> Option<Name>
+    ensures { IfSome result (IsName settings.now) }
 {
-    Name::from_digits(settings, digits).map_err(|_| anyhow!("a name"))
+    Name::from_digits(settings, digits).ok()
 }
 
 /// A node that is the only member.
-pub(crate) fn member(alloc: Global, settings: &Settings, digits: &Digits) -> Result<Node> {
+pub(crate) fn member(alloc: Global, settings: &Settings, digits: &Digits) -> Option<Node> {
     let name = name(settings, digits)?;
     let mut members = List::new(alloc);
-    let Ok(()) = members.push(name) else {
-        bail!("no memory");
-    };
-    let Ok(node) = Node::member(alloc, name, settings, &members) else {
-        bail!("no memory");
-    };
-    Ok(node)
+    members.push(name).ok()?;
+    Node::member(alloc, name, settings, &members).ok()
 }
 
 /// A node that has started to join by another one, and the frames of its start.
@@ -92,11 +83,11 @@ pub(crate) fn joiner(
     settings: &Settings,
     digits: &Digits,
     via: &Digits,
-) -> Result<(Node, Turn)> {
+) -> Option<(Node, Turn)> {
     let name_of_via = name(settings, via)?;
     let name = name(settings, digits)?;
     let Ok(mut node) = Node::joiner(alloc, name, settings) else {
-        bail!("no memory");
+        return None;
     };
     let start = if node.room() {
         node.seek_by(name_of_via).ok()
@@ -104,9 +95,9 @@ pub(crate) fn joiner(
         None
     };
     let Some(turn) = start else {
-        bail!("no start");
+        return None;
     };
-    Ok((node, turn))
+    Some((node, turn))
 }
 
 /// Has a node take a frame. `None` if it has no room for a step, or refuses the frame.
@@ -114,22 +105,15 @@ pub(crate) fn take(node: &mut Node, bytes: &[u8]) -> Option<Turn> {
     if !node.room() {
         return None;
     }
-    match node.take(bytes) {
-        Ok(turn) => Some(turn),
-        Err(_) => None,
-    }
+    node.take(bytes).ok()
 }
 
-/// Has a node take frames, one after the other, and says what it sent.
-pub(crate) fn take_each(node: &mut Node, frames: &[Vec<u8>]) -> Result<Sent> {
-    let mut sent = Sent::nothing();
+/// Has a node take frames, one after the other.
+pub(crate) fn take_each(node: &mut Node, frames: &[Vec<u8>]) -> Option<()> {
     for frame in frames {
-        let Some(turn) = take(node, frame.as_slice()) else {
-            bail!("a refused frame");
-        };
-        sent = sent.with(sent_by(turn));
+        take(node, frame.as_slice())?;
     }
-    Ok(sent)
+    Some(())
 }
 
 /// What a step sent.

@@ -1,32 +1,22 @@
-use std::alloc::{AllocError, Global};
-use tap_name::Settings;
+use crate::node_frames::{Code, Digits, frame};
+use std::alloc::Global;
 
-/// The settings of the frames: base 16, eight digits.
-pub(crate) fn settings() -> Option<Settings> {
-    Settings::new(16, 8, 2)
-}
+const SENDER: Digits = [0, 0, 0, 0, 0, 0, 0, 1];
 
-// A head of the first version, with a kind and the length of the body, and the sender 00000001 and the receiver 00000002.
-fn head(out: &mut Vec<u8>, kind: u8, len: [u8; 2]) -> Result<(), AllocError> {
-    out.extend_from_slice(&[1, kind, len[0], len[1]])?;
-    out.extend_from_slice(&[0, 0, 0, 0, 0, 0, 0, 1])?;
-    out.extend_from_slice(&[0, 0, 0, 0, 0, 0, 0, 2])
-}
+const RECEIVER: Digits = [0, 0, 0, 0, 0, 0, 0, 2];
 
 /// The bytes of a Release.
-pub(crate) fn release(alloc: Global) -> Result<Vec<u8>, AllocError> {
-    let mut out = Vec::new(alloc);
-    head(&mut out, 7, [0, 0])?;
-    Ok(out)
+pub(crate) fn release(alloc: Global) -> Option<Vec<u8>> {
+    frame(alloc, Code::Release, &SENDER, &RECEIVER, &[])
 }
 
 /// The bytes of a Hello with 255 settled links, of which each has nine bytes.
-pub(crate) fn hello(alloc: Global) -> Result<Vec<u8>, AllocError> {
-    let mut out = Vec::new(alloc);
-    head(&mut out, 3, 2300u16.to_be_bytes())?;
-    out.extend_from_slice(&[0, 0, 0, 1, 1])?;
+pub(crate) fn hello(alloc: Global) -> Option<Vec<u8>> {
+    let mut body = Vec::new(alloc);
+    body.extend_from_slice(&[0, 0, 0, 1, 1]).ok()?;
     for link in 0..255u8 {
-        out.extend_from_slice(&[0, 0, 0, 0, 0, 0, link / 16, link % 16, 1])?;
+        let bytes = [0, 0, 0, 0, 0, 0, link / 16, link % 16, 1];
+        body.extend_from_slice(&bytes).ok()?;
     }
-    Ok(out)
+    frame(alloc, Code::Hello, &SENDER, &RECEIVER, body.as_slice())
 }
