@@ -9,8 +9,9 @@ mod words;
 
 use anyhow::{Context, Result, bail};
 use network::{Network, NodeNews};
+use std::io;
 use tap_name::Settings;
-use tap_node::News;
+use tap_node::{News, Node};
 use tap_table::Table;
 use words::{kind_word, status_word};
 
@@ -21,7 +22,8 @@ fn main(rt: HostRuntime) -> Result<()> {
     let settings = Settings::new(4, 3, 2).context("the settings")?;
     let mut network = Network::new(rt.alloc(), settings);
     run(&rt, &mut network)?;
-    print_nodes(&rt, &network)
+    print_nodes(&rt, &network)?;
+    Ok(())
 }
 
 // The joins, the publication and the lookup.
@@ -49,29 +51,28 @@ fn deliver_all(rt: &impl Print, network: &mut Network) -> Result<()> {
 }
 
 // Prints the news of a step, if it has any.
-fn print_news(rt: &impl Print, step: NodeNews) -> Result<()> {
+fn print_news(rt: &impl Print, step: NodeNews) -> io::Result<()> {
     let node = step.node;
     match step.news {
-        News::Nothing => {}
-        News::Core => println!(rt; "news {node} core")?,
-        News::Gone => println!(rt; "news {node} gone")?,
+        News::Nothing => Ok(()),
+        News::Core => println!(rt; "news {node} core"),
+        News::Gone => println!(rt; "news {node} gone"),
         News::Answered {
             ticket,
             server: Some(server),
-        } => println!(rt; "news {node} answered {ticket} by {server}")?,
+        } => println!(rt; "news {node} answered {ticket} by {server}"),
         News::Answered {
             ticket,
             server: None,
-        } => println!(rt; "news {node} answered {ticket} by none")?,
-        News::Cast { cast, .. } => println!(rt; "news {node} cast {cast}")?,
+        } => println!(rt; "news {node} answered {ticket} by none"),
+        News::Cast { cast, .. } => println!(rt; "news {node} cast {cast}"),
     }
-    Ok(())
 }
 
 // Prints each node with its links.
-fn print_nodes(rt: &impl Print, network: &Network) -> Result<()> {
+fn print_nodes(rt: &impl Print, network: &Network) -> io::Result<()> {
     for node in network.nodes() {
-        println!(rt; "node {} {}", node.name(), status_word(node.status()))?;
+        print_node(rt, node)?;
         if let Some(table) = node.table() {
             print_links(rt, table)?;
         }
@@ -79,15 +80,18 @@ fn print_nodes(rt: &impl Print, network: &Network) -> Result<()> {
     Ok(())
 }
 
+// Prints a node, and what it is.
+fn print_node(rt: &impl Print, node: &Node) -> io::Result<()> {
+    println!(rt; "node {} {}", node.name(), status_word(node.status()))
+}
+
 // Prints the links of a table.
-fn print_links(rt: &impl Print, table: &Table) -> Result<()> {
+fn print_links(rt: &impl Print, table: &Table) -> io::Result<()> {
     for row in table.rows() {
+        let kind = kind_word(row.kind);
         println!(rt;
-            "link {} {} {} {}",
-            row.slot.level,
-            row.slot.digit,
-            row.target,
-            kind_word(row.kind)
+            "link {} {} {} {kind}",
+            row.slot.level, row.slot.digit, row.target
         )?;
     }
     Ok(())
