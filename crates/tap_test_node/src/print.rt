@@ -1,143 +1,136 @@
-use crate::held_node::HeldNode;
 use crate::system::{SentFrame, System};
-use anyhow::{Result, bail};
-use std::fmt;
+use anyhow::{Context, Result};
+use std::io;
 use tap_link::Kind;
-use tap_name::{Name, Settings};
+use tap_name::Name;
 use tap_node::{News, Node, NodeFault, NodeStatus, Turn};
-use tap_wire::{Bytes, Kind as FrameKind, WireFault, decode};
+use tap_wire::{Bytes, Head, decode_head};
 
-// A name as it is printed.
-#[derive(Clone, Copy)]
-struct Printed<'a>(&'a Name);
-
-impl<'a> fmt::Display for Printed<'a> {
-    fn fmt<W: fmt::Write>(&self, f: &mut fmt::Formatter<W>) -> fmt::Result {
-        for digit in self.0.digits().as_slice() {
-            write!(f, "{digit:x}")?;
-        }
-        Ok(())
-    }
-}
+// The words of the kinds of frames, in the order of their codes, from 1.
+const KINDS: [&str; 17] = [
+    "seek", "tell", "hello", "heard", "ack", "done", "release", "link", "lay", "find", "answer",
+    "leave", "left", "gone", "forget", "cast", "castack",
+];
 
 /// Prints what a node has answered, and puts the frames that it sends under way.
 pub(crate) fn print_answer(
     rt: &(impl AllocGlobal + Print),
     system: &mut System,
-    name: &Name,
+    name: Name,
     answer: Result<Turn, NodeFault>,
 ) -> Result<()> {
     match answer {
         Ok(turn) => print_turn(rt, system, name, turn),
-        Err(fault) => print_fault(rt, fault),
+        Err(fault) => Ok(print_fault(rt, fault)?),
     }
 }
 
 // Prints why a node has taken no step.
-fn print_fault(rt: &impl Print, fault: NodeFault) -> Result<()> {
+fn print_fault(rt: &impl Print, fault: NodeFault) -> io::Result<()> {
     match fault {
-        NodeFault::Wire(fault) => println!(rt; "refused Wire({fault:?})")?,
-        NodeFault::NotMine(other) => println!(rt; "refused NotMine({})", Printed(&other))?,
-        NodeFault::Strange => println!(rt; "refused Strange")?,
-        NodeFault::NoMemory => println!(rt; "refused NoMemory")?,
-        NodeFault::Ended => println!(rt; "refused Ended")?,
+        NodeFault::NotMine(other) => println!(rt; "refused NotMine({other})"),
+        fault => println!(rt; "refused {fault:?}"),
     }
-    Ok(())
 }
 
 // Prints the news and the frames of a step.
 fn print_turn(
     rt: &(impl AllocGlobal + Print),
     system: &mut System,
-    name: &Name,
+    name: Name,
     turn: Turn,
 ) -> Result<()> {
-    match turn.news {
-        News::Core => println!(rt; "core {}", Printed(name))?,
-        News::Gone => println!(rt; "gone {}", Printed(name))?,
+    let news = turn.news;
+    print_news(rt, name, news)?;
+    for bytes in turn.sent.into_frames() {
+        send(rt, system, bytes)?;
+    }
+    Ok(print_end(rt, news)?)
+}
+
+// Prints the news of a step that go before its frames.
+fn print_news(rt: &impl Print, name: Name, news: News) -> io::Result<()> {
+    match news {
+        News::Core => println!(rt; "core {name}"),
+        News::Gone => println!(rt; "gone {name}"),
         News::Cast {
             cast,
             reached: true,
             ..
-        } => println!(rt; "reached {cast} {}", Printed(name))?,
-        News::Nothing | News::Answered { .. } | News::Cast { reached: false, .. } => {}
+        } => println!(rt; "reached {cast} {name}"),
+        News::Nothing | News::Answered { .. } | News::Cast { reached: false, .. } => Ok(()),
     }
-    for bytes in turn.sent.into_frames() {
-        print_frame(rt, system, bytes)?;
-    }
-    match turn.news {
+}
+
+// Prints the news of a step that come after its frames.
+fn print_end(rt: &impl Print, news: News) -> io::Result<()> {
+    match news {
         News::Cast {
             cast,
             closed: true,
             ..
-        } => println!(rt; "closed {cast}")?,
+        } => println!(rt; "closed {cast}"),
         News::Answered {
             ticket,
             server: Some(server),
-        } => println!(rt; "answered {ticket} server {}", Printed(&server))?,
+        } => println!(rt; "answered {ticket} server {server}"),
         News::Answered {
             ticket,
             server: None,
-        } => println!(rt; "answered {ticket} none")?,
-        News::Nothing | News::Core | News::Gone | News::Cast { closed: false, .. } => {}
+        } => println!(rt; "answered {ticket} none"),
+        News::Nothing | News::Core | News::Gone | News::Cast { closed: false, .. } => Ok(()),
     }
-    Ok(())
 }
 
 // Prints a frame that is sent, and puts it under way.
-fn print_frame(rt: &(impl AllocGlobal + Print), system: &mut System, bytes: Bytes) -> Result<()> {
-    let frame = match decode(rt.alloc(), system.settings(), bytes.as_slice()) {
-        Ok(frame) => frame,
-        Err(WireFault::NoMemory) => bail!("no memory"),
-        Err(_) => bail!("a node sends what is no frame"),
-    };
+fn send(rt: &(impl AllocGlobal + Print), system: &mut System, bytes: Bytes) -> Result<()> {
+    let head = decode_head(system.settings(), bytes.as_slice())?;
     let number = system.next_number();
-    let word = kind_word(FrameKind::of(&frame.body));
-    let spelled = hex::encode(rt.alloc(), bytes.as_slice())?;
-    println!(rt;
-        "sent {number} {word} {} {} {spelled}",
-        Printed(&frame.from),
-        Printed(&frame.to)
-    )?;
-    system.send(SentFrame { number, bytes })
+    print_frame(rt, number, &head, bytes.as_slice())?;
+    system
+        .send(SentFrame { number, bytes })
+        .context("no memory")
+}
+
+// Prints a frame of this number, with this head.
+fn print_frame(
+    rt: &(impl AllocGlobal + Print),
+    number: u64,
+    head: &Head,
+    bytes: &[u8],
+) -> io::Result<()> {
+    let spelled = hex::encode(rt.alloc(), bytes)?;
+    let word = kind_word(head.kind);
+    println!(rt; "sent {number} {word} {} {} {spelled}", head.from, head.to)
 }
 
 /// Prints the status of a node.
-pub(crate) fn print_status(rt: &impl Print, node: &Node) -> Result<()> {
-    println!(rt;
-        "status {} {}",
-        Printed(&node.name()),
-        status_word(node.status())
-    )?;
-    Ok(())
+pub(crate) fn print_status(rt: &impl Print, node: &Node) -> io::Result<()> {
+    println!(rt; "status {} {}", node.name(), status_word(node.status()))
 }
 
 /// Prints the status of a node, its links, the pairs that it holds, and its sessions of joins: how many are open, and how many
 /// were ever opened.
-pub(crate) fn print_state(rt: &impl Print, node: &Node) -> Result<()> {
-    let name = node.name();
+pub(crate) fn print_state(rt: &impl Print, node: &Node) -> io::Result<()> {
+    print_sessions(rt, node)?;
+    print_links(rt, node)?;
+    print_pointers(rt, node)
+}
+
+// Prints the status of a node, and its sessions of joins.
+fn print_sessions(rt: &impl Print, node: &Node) -> io::Result<()> {
+    let sessions = node.sessions();
     println!(rt;
         "state {} {} sessions {} of {}",
-        Printed(&name),
+        node.name(),
         status_word(node.status()),
-        node.sessions().open_count(),
-        node.sessions().opened()
-    )?;
-    print_links(rt, node)?;
-    if let Some(pointers) = node.pointers() {
-        for pair in pointers.held() {
-            println!(rt;
-                "pointer {} {}",
-                Printed(&pair.object),
-                Printed(&pair.server)
-            )?;
-        }
-    }
-    Ok(())
+        sessions.open_count(),
+        sessions.opened()
+    )
 }
 
 // Prints the links of a node.
-fn print_links(rt: &impl Print, node: &Node) -> Result<()> {
+fn print_links(rt: &impl Print, node: &Node) -> io::Result<()> {
     let Some(table) = node.table() else {
         return Ok(());
     };
@@ -146,33 +139,29 @@ fn print_links(rt: &impl Print, node: &Node) -> Result<()> {
             "link {} {:x} {} {}",
             row.slot.level,
             row.slot.digit,
-            Printed(&row.target),
+            row.target,
             kind_of_link(row.kind)
         )?;
     }
     Ok(())
 }
 
-// The word of a kind of frame.
-fn kind_word(kind: FrameKind) -> &'static str {
-    match kind {
-        FrameKind::Seek => "seek",
-        FrameKind::Tell => "tell",
-        FrameKind::Hello => "hello",
-        FrameKind::Heard => "heard",
-        FrameKind::Ack => "ack",
-        FrameKind::Done => "done",
-        FrameKind::Release => "release",
-        FrameKind::Link => "link",
-        FrameKind::Lay => "lay",
-        FrameKind::Find => "find",
-        FrameKind::Answer => "answer",
-        FrameKind::Leave => "leave",
-        FrameKind::Left => "left",
-        FrameKind::Gone => "gone",
-        FrameKind::Forget => "forget",
-        FrameKind::Cast => "cast",
-        FrameKind::CastAck => "castack",
+// Prints the pairs that a node holds.
+fn print_pointers(rt: &impl Print, node: &Node) -> io::Result<()> {
+    let Some(pointers) = node.pointers() else {
+        return Ok(());
+    };
+    for pair in pointers.held() {
+        println!(rt; "pointer {} {}", pair.object, pair.server)?;
+    }
+    Ok(())
+}
+
+// The word of the kind of frame with this code.
+fn kind_word(code: u8) -> &'static str {
+    match KINDS.get(usize::from(code).saturating_sub(1)) {
+        Some(word) => word,
+        None => "unknown",
     }
 }
 

@@ -1,5 +1,4 @@
 use crate::held_node::HeldNode;
-use anyhow::Result;
 use std::alloc::Global;
 use tap_name::{Name, Settings, read_name};
 use tap_wire::Bytes;
@@ -38,22 +37,24 @@ impl System {
         &self.settings
     }
 
-    /// Adds a node, in place of the one of its name if there is one.
-    pub(crate) fn add(&mut self, node: HeldNode) -> Result<()> {
+    /// Adds a node, in place of the one of its name if there is one; none if memory is refused.
+    pub(crate) fn add(&mut self, node: HeldNode) -> Option<()> {
         let name = node.node().name();
         if let Some(held) = self.node_named(name) {
             *held = node;
-            return Ok(());
+            return Some(());
         }
-        self.nodes.push(node)?;
-        Ok(())
+        self.nodes.push(node).ok()
+    }
+
+    /// The name that this text spells, if it is one.
+    pub(crate) fn name(&self, text: &str) -> Option<Name> {
+        read_name(&self.settings, text.as_bytes()).ok()
     }
 
     /// The node of this text's name, if there is one.
     pub(crate) fn node(&mut self, text: &str) -> Option<&mut HeldNode> {
-        let Ok(name) = read_name(&self.settings, text.as_bytes()) else {
-            return None;
-        };
+        let name = self.name(text)?;
         self.node_named(name)
     }
 
@@ -74,10 +75,9 @@ impl System {
         number
     }
 
-    /// Puts a frame under way.
-    pub(crate) fn send(&mut self, frame: SentFrame) -> Result<()> {
-        self.under_way.push(frame)?;
-        Ok(())
+    /// Puts a frame under way; none if memory is refused.
+    pub(crate) fn send(&mut self, frame: SentFrame) -> Option<()> {
+        self.under_way.push(frame).ok()
     }
 
     /// Takes away the frame at this place of those under way.
