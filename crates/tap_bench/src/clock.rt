@@ -1,6 +1,10 @@
 use std::rt::Clock;
 use std::time::Instant;
 
+/// Why a call gives nothing.
+pub(crate) const CANNOT: &str =
+    "the call can't be made: memory or the clock is refused, or what it works on can't be made";
+
 /// What calls gave, all together, and the nanoseconds that they took.
 #[derive(Clone, Copy)]
 pub(crate) struct Run {

@@ -1,4 +1,4 @@
-ghost use Rattle.std.specs.Prelude.{◌≡◌, ◌≢◌, OnSome, IfSome};
+ghost use Rattle.std.specs.Prelude.{◌≡◌, IfSome};
 ghost use Rattle.tap_name.specs.Name.{IsName};
 ghost use Rattle.tap_bench.specs.Settings.{measured};
 

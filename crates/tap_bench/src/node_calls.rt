@@ -1,3 +1,4 @@
+use crate::clock::CANNOT;
 use crate::scene_calls::{CALLS, Run, make};
 use anyhow::{Context, Result};
 use std::io;
@@ -9,7 +10,7 @@ const FEW: usize = 4;
 /// Makes each step of a node a few times.
 pub(crate) fn make_each(rt: &(impl AllocGlobal + Clock + Print)) -> Result<()> {
     for (name, call) in CALLS {
-        print_run(rt, name, &make(rt, call, FEW).context("no memory")?)?;
+        print_run(rt, name, &make(rt, call, FEW).context(CANNOT)?)?;
     }
     Ok(())
 }
@@ -30,7 +31,7 @@ pub(crate) fn time(
 ) -> Result<bool> {
     for (name, call) in CALLS {
         if name == wanted {
-            let run = make(rt, call, count).context("no memory")?;
+            let run = make(rt, call, count).context(CANNOT)?;
             print_time(rt, name, run.nanoseconds / count.max(1) as u128)?;
             return Ok(true);
         }

@@ -1,4 +1,4 @@
-use crate::clock::Run;
+use crate::clock::{CANNOT, Run};
 use crate::{covers, hellos, pairs};
 use anyhow::{Context, Result};
 use std::io;
@@ -22,9 +22,6 @@ const CALLS: [(&str, Call); 5] = [
     ("reconcile", Call::Reconcile),
 ];
 
-// Why a call gives nothing.
-const CANNOT: &str = "no memory, or too many pairs";
-
 impl Call {
     // The sizes with which it is made without words.
     fn sizes(self) -> [u32; 2] {
@@ -45,7 +42,7 @@ impl Call {
     }
 }
 
-// Makes a call so many times; none if memory is refused, or there are too many pairs.
+// Makes a call so many times; none if it can't be made.
 fn make(rt: &(impl AllocGlobal + Clock), call: Call, size: u32, count: u32) -> Option<Run> {
     match call {
         Call::Cover => covers::cover_first(rt, size, count),

@@ -3,7 +3,7 @@ ghost use Rattle.tap_name.specs.Distinct.{AreDistinct};
 ghost use Rattle.tap_name.specs.Name.{IsName};
 ghost use Rattle.tap_bench.specs.Settings.{measured};
 
-use crate::clock::Run;
+use crate::clock::{CANNOT, Run};
 use crate::full_tables::{bytes_of_table, full, lens, next_hops, object, primaries};
 use crate::members::{MEMBERS, holders_at_rest, members};
 use crate::value_frames::{hello, release};
@@ -168,11 +168,11 @@ fn print_sizes(rt: &impl Print, holders: u64) -> io::Result<()> {
 /// Makes each call on a frame or a table once, or so many times that all slots are asked.
 pub(crate) fn make_each(rt: &(impl AllocGlobal + Clock + Print)) -> Result<()> {
     for (name, call) in FRAME_CALLS {
-        let run = run_on_frame(rt, call, 1).context("no memory")?;
+        let run = run_on_frame(rt, call, 1).context(CANNOT)?;
         print_frame(rt, name, run.gave)?;
     }
     call_each_on_a_table(rt)?;
-    let run = run_at_rest(rt, 1).context("no memory")?;
+    let run = run_at_rest(rt, 1).context(CANNOT)?;
     print_sizes(rt, run.gave)?;
     Ok(())
 }
@@ -180,7 +180,7 @@ pub(crate) fn make_each(rt: &(impl AllocGlobal + Clock + Print)) -> Result<()> {
 // Makes each call on a table so many times that all slots are asked.
 fn call_each_on_a_table(rt: &(impl AllocGlobal + Clock + Print)) -> Result<()> {
     for (name, call) in TABLE_CALLS {
-        let run = run_on_table(rt, call, ALL_SLOTS).context("no memory")?;
+        let run = run_on_table(rt, call, ALL_SLOTS).context(CANNOT)?;
         print_table(rt, name, run.gave, call.finds())?;
     }
     Ok(())
@@ -225,13 +225,13 @@ pub(crate) fn time(
 ) -> Result<bool> {
     for (name, call) in FRAME_CALLS {
         if name == wanted {
-            let run = run_on_frame(rt, call, count).context("no memory")?;
+            let run = run_on_frame(rt, call, count).context(CANNOT)?;
             print_frame_time(rt, name, run, count)?;
             return Ok(true);
         }
     }
     if wanted == AT_REST {
-        let run = run_at_rest(rt, count).context("no memory")?;
+        let run = run_at_rest(rt, count).context(CANNOT)?;
         print_time_at_rest(rt, run, count)?;
         return Ok(true);
     }
@@ -246,7 +246,7 @@ fn time_on_table(
 ) -> Result<bool> {
     for (name, call) in TABLE_CALLS {
         if name == wanted {
-            let run = run_on_table(rt, call, count).context("no memory")?;
+            let run = run_on_table(rt, call, count).context(CANNOT)?;
             print_table_time(rt, name, run, count, call.finds())?;
             return Ok(true);
         }
