@@ -4,13 +4,7 @@ use std::io;
 use tap_link::Kind;
 use tap_name::Name;
 use tap_node::{News, Node, NodeFault, NodeStatus, Turn};
-use tap_wire::{Bytes, Head, decode_head};
-
-// The words of the kinds of frames, in the order of their codes, from 1.
-const KINDS: [&str; 17] = [
-    "seek", "tell", "hello", "heard", "ack", "done", "release", "link", "lay", "find", "answer",
-    "leave", "left", "gone", "forget", "cast", "castack",
-];
+use tap_wire::{Bytes, Frame, Kind as FrameKind, decode};
 
 /// Prints what a node has answered, and puts the frames that it sends under way.
 pub(crate) fn print_answer(
@@ -84,24 +78,24 @@ fn print_end(rt: &impl Print, news: News) -> io::Result<()> {
 
 // Prints a frame that is sent, and puts it under way.
 fn send(rt: &(impl AllocGlobal + Print), system: &mut System, bytes: Bytes) -> Result<()> {
-    let head = decode_head(system.settings(), bytes.as_slice())?;
+    let frame = decode(rt.alloc(), system.settings(), bytes.as_slice())?;
     let number = system.next_number();
-    print_frame(rt, number, &head, bytes.as_slice())?;
+    print_frame(rt, number, &frame, bytes.as_slice())?;
     system
         .send(SentFrame { number, bytes })
         .context("no memory")
 }
 
-// Prints a frame of this number, with this head.
+// Prints a frame of this number, and its bytes.
 fn print_frame(
     rt: &(impl AllocGlobal + Print),
     number: u64,
-    head: &Head,
+    frame: &Frame,
     bytes: &[u8],
 ) -> io::Result<()> {
     let spelled = hex::encode(rt.alloc(), bytes)?;
-    let word = kind_word(head.kind);
-    println!(rt; "sent {number} {word} {} {} {spelled}", head.from, head.to)
+    let word = kind_word(FrameKind::of(&frame.body));
+    println!(rt; "sent {number} {word} {} {} {spelled}", frame.from, frame.to)
 }
 
 /// Prints the status of a node.
@@ -157,11 +151,26 @@ fn print_pointers(rt: &impl Print, node: &Node) -> io::Result<()> {
     Ok(())
 }
 
-// The word of the kind of frame with this code.
-fn kind_word(code: u8) -> &'static str {
-    match KINDS.get(usize::from(code).saturating_sub(1)) {
-        Some(word) => word,
-        None => "unknown",
+// The word of a kind of frame.
+fn kind_word(kind: FrameKind) -> &'static str {
+    match kind {
+        FrameKind::Seek => "seek",
+        FrameKind::Tell => "tell",
+        FrameKind::Hello => "hello",
+        FrameKind::Heard => "heard",
+        FrameKind::Ack => "ack",
+        FrameKind::Done => "done",
+        FrameKind::Release => "release",
+        FrameKind::Link => "link",
+        FrameKind::Lay => "lay",
+        FrameKind::Find => "find",
+        FrameKind::Answer => "answer",
+        FrameKind::Leave => "leave",
+        FrameKind::Left => "left",
+        FrameKind::Gone => "gone",
+        FrameKind::Forget => "forget",
+        FrameKind::Cast => "cast",
+        FrameKind::CastAck => "castack",
     }
 }
 
