@@ -66,7 +66,7 @@ def source_of(shown):
     """The text of a file, which is named from the top of the repository."""
     try:
         return runs.contents(os.path.join(runs.TOP, shown))
-    except (OSError, UnicodeDecodeError):
+    except (OSError, runs.Wrong):
         raise BadEdit(f"{shown}: no such file") from None
 
 

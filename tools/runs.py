@@ -78,7 +78,7 @@ def call(name, main):
         os.dup2(os.open(os.devnull, os.O_WRONLY), sys.stdout.fileno())
         status = 2
     except UnicodeError as error:
-        print(f"{name}: a {'file' if isinstance(error, UnicodeDecodeError) else 'word'} isn't UTF-8", file=sys.stderr)
+        print(f"{name}: {'what was read' if isinstance(error, UnicodeDecodeError) else 'a word'} isn't UTF-8", file=sys.stderr)
         status = 2
     except OSError as error:
         print(f"{name}: " + (f"{error.filename}: {error.strerror}" if error.filename else str(error)), file=sys.stderr)
@@ -189,8 +189,16 @@ def raw_contents(path):
         return file.read()
 
 
+def decoded(data, path):
+    """The text that the bytes of a file are."""
+    try:
+        return data.decode("utf-8")
+    except UnicodeDecodeError:
+        raise Wrong(f"{path}: this isn't UTF-8") from None
+
+
 def contents(path):
-    return raw_contents(path).decode("utf-8")
+    return decoded(raw_contents(path), path)
 
 
 def count(number, noun):
@@ -213,7 +221,7 @@ def log_of(path, program):
         raise Wrong(f"{path}: the text is empty", 1)
     if not text.startswith((b"begin ", b"tapestry: ")):
         return Log(play(program_of(program), text)[1], path)
-    return Log(text.decode("utf-8"), path)
+    return Log(decoded(text, path), path)
 
 
 # ---- scenarios
