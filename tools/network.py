@@ -279,7 +279,7 @@ class Node:
             return self.begin_again(ended)
 
     def status(self):
-        """What the process has said of the node, by the words of its six lines."""
+        """What the process has said of the node, by the words of its seven lines."""
         return self.process.status
 
     def awaits(self):
