@@ -1,7 +1,7 @@
 """What was counted before, in bench/counts, and how that which is counted now compares with it.
 
-A line there has the words of a run or of a call, the last of which may be its size, and its number of instructions. The numbers are those of
-the program with which they were stored, on one machine: with another C library or a later toolchain they are stored anew first.
+A line there has the words of a run, of a text that is judged or of a call, the last of which may be its size, and its number of instructions. The
+numbers are those of the program with which they were stored, on one machine: with another C library or a later toolchain they are stored anew first.
 """
 import collections
 import os
@@ -24,7 +24,7 @@ def store(found):
     """Stores counts in place of those with the same words, and keeps the others."""
     every = {**read(), **found}
     with open(COUNTS, "w", encoding="ascii") as file:
-        file.write("# Instructions, counted by valgrind: of whole runs, and of single calls.\n")
+        file.write("# Instructions, counted by valgrind: of whole runs, of the judge on their texts, and of single calls.\n")
         file.writelines(f"{words} {count}\n" for words, count in every.items())
     return f"{len(found)} counts are stored"
 
