@@ -137,6 +137,137 @@ member 2
     },
 ];
 
+// The log of one join, with all its frames and two tables, and the same changed in one place.
+const JOIN: [Case; 4] = [
+    Case {
+        shows: "the log as it is",
+        text: "begin base 2 digits 2 width 1 frames 200000
+member 00
+step 1 join 01 via 00
+sent 0 seek 01 00 01010002000100000001
+step 2 settle
+taken 0
+sent 1 link 00 01 01080005000000010000000101
+sent 2 hello 00 01 01030005000000010000000101
+taken 1
+taken 2
+sent 3 link 01 00 01080005000100000000000101
+sent 4 heard 01 00 010400040001000000000001
+taken 3
+sent 5 release 00 01 0107000000000001
+taken 4
+sent 6 done 00 01 0106000000000001
+taken 5
+taken 6
+core 01
+sent 7 release 01 00 0107000000010000
+taken 7
+step 3 table 00
+table 00 core links 1
+link 1 1 01 settled
+step 4 table 01
+table 01 core links 1
+link 1 0 00 settled
+done 4
+",
+        status: JudgeStatus::Lawful(25),
+        line: "lawful 25 records\n",
+    },
+    Case {
+        shows: "the same, which stops within a group",
+        text: "begin base 2 digits 2 width 1 frames 200000
+member 00
+step 1 join 01 via 00
+sent 0 seek 01 00 01010002000100000001
+step 2 settle
+taken 0
+sent 1 link 00 01 01080005000000010000000101
+sent 2 hello 00 01 01030005000000010000000101
+taken 1
+taken 2
+sent 3 link 01 00 01080005000100000000000101
+sent 4 heard 01 00 010400040001000000000001
+taken 3
+sent 5 release 00 01 0107000000000001
+taken 4
+sent 6 done 00 01 0106000000000001
+taken 5
+taken 6
+core 01
+",
+        status: JudgeStatus::Unlawful(19),
+        line: "unlawful at record 19\n",
+    },
+    Case {
+        shows: "the same, in which a wrong frame is taken",
+        text: "begin base 2 digits 2 width 1 frames 200000
+member 00
+step 1 join 01 via 00
+sent 0 seek 01 00 01010002000100000001
+step 2 settle
+taken 0
+sent 1 link 00 01 01080005000000010000000101
+sent 2 hello 00 01 01030005000000010000000101
+taken 1
+taken 2
+sent 3 link 01 00 01080005000100000000000101
+sent 4 heard 01 00 010400040001000000000001
+taken 3
+sent 5 release 00 01 0107000000000001
+taken 5
+sent 6 done 00 01 0106000000000001
+taken 5
+taken 6
+core 01
+sent 7 release 01 00 0107000000010000
+taken 7
+step 3 table 00
+table 00 core links 1
+link 1 1 01 settled
+step 4 table 01
+table 01 core links 1
+link 1 0 00 settled
+done 4
+",
+        status: JudgeStatus::Unlawful(14),
+        line: "unlawful at record 14\n",
+    },
+    Case {
+        shows: "the same, in which the member is no name",
+        text: "begin base 2 digits 2 width 1 frames 200000
+member 02
+step 1 join 01 via 00
+sent 0 seek 01 00 01010002000100000001
+step 2 settle
+taken 0
+sent 1 link 00 01 01080005000000010000000101
+sent 2 hello 00 01 01030005000000010000000101
+taken 1
+taken 2
+sent 3 link 01 00 01080005000100000000000101
+sent 4 heard 01 00 010400040001000000000001
+taken 3
+sent 5 release 00 01 0107000000000001
+taken 4
+sent 6 done 00 01 0106000000000001
+taken 5
+taken 6
+core 01
+sent 7 release 01 00 0107000000010000
+taken 7
+step 3 table 00
+table 00 core links 1
+link 1 1 01 settled
+step 4 table 01
+table 01 core links 1
+link 1 0 00 settled
+done 4
+",
+        status: JudgeStatus::NotLog(2),
+        line: "not a log at line 2\n",
+    },
+];
+
 // The text of a case is judged so, and its line is written.
 fn check_case(rt: &impl Abort, alloc: Global, case: &Case) {
     let mut source = MemorySource::new(alloc, case.text.as_bytes(), 16, &[]).expect(rt, "memory");
@@ -157,6 +288,13 @@ fn lawful_logs_are_told(rt: HostRuntime) {
 #[test]
 fn others_are_refused(rt: HostRuntime) {
     for case in REFUSED.iter() {
+        check_case(&rt, rt.alloc(), case);
+    }
+}
+
+#[test]
+fn the_log_of_a_join_is_told_and_its_changes_are_refused(rt: HostRuntime) {
+    for case in JOIN.iter() {
         check_case(&rt, rt.alloc(), case);
     }
 }
