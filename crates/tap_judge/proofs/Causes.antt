@@ -18,9 +18,9 @@ use Rattle.tap_report.specs.declared.written.Written.TheVariants.{All, Failed}
 use Rattle.tap_shape.specs.Text.{IsNotLog, IsTextOf}
 use Rattle.tap_shape.proofs.Exact.{one_log}
 use Rattle.tap_shape.proofs.Unique.{one_refused}
-use Rattle.tap_judge.specs.Ending.{HasCause, HasReadLawful, HasReadSuch, HasWritten, IsCauseOf, IsLawfulText, IsSaidOf, IsUnlawfulText, OneIsSaid, SpeaksOfBytes}
-use Rattle.tap_judge.specs.Limits.{most_bytes}
-use Rattle.tap_judge.specs.Status.{with_writing}
+use Rattle.tap_judge.specs.Ending.{HasJudgeCause, HasReadLawful, HasReadSuch, HasWrittenLine, IsCauseOf, IsLawfulText, IsSaidOf, IsUnlawfulText, OneIsSaid, SpeaksOfBytes}
+use Rattle.tap_judge.specs.Limits.{most_log_bytes}
+use Rattle.tap_judge.specs.Status.{judge_status_with_writing}
 use Rattle.tap_judge.proofs.Sizes.{records_within}
 use Rattle.tap_judge.specs.declared.status.JudgeStatus.{JudgeStatus}
 use Rattle.tap_judge.specs.declared.status.JudgeStatus.TheVariants.{Lawful, Unlawful, NotLog, TooLong, Usage, ReadFault, WriteFault, NoMemory}
@@ -61,7 +61,7 @@ one_is_said bytes (Unlawful k) other one said = one_unlawful bytes k one other s
 one_is_said bytes (NotLog line) other one said = one_not_log bytes line one other said
 one_is_said bytes status other one said = absurd one
 
-pub few_records : (bytes : List ℕ) (log : List Record) → length bytes ≤ most_bytes → IsTextOf bytes log → length log < 2 ^ 32 - 1
+pub few_records : (bytes : List ℕ) (log : List Record) → length bytes ≤ most_log_bytes → IsTextOf bytes log → length log < 2 ^ 32 - 1
 few_records bytes log within text = let size = records_within bytes log text in omega (arith, size, within)
 
 -- ---- what was read
@@ -72,11 +72,11 @@ module _ (old new : SourceState) where
   all_consumed bytes told None consumes ends = absurd consumes
   all_consumed bytes told (Some rest) consumes ends = sym (consumes ∙ ap (λ l. bytes ++ l) ends ∙ append-nil bytes)
 
-  bytes_told : (bytes told : List ℕ) → HasReadAll most_bytes old new bytes → old.left ≡ Some told → bytes ≡ told
+  bytes_told : (bytes told : List ℕ) → HasReadAll most_log_bytes old new bytes → old.left ≡ Some told → bytes ≡ told
   bytes_told bytes told read is =
       all_consumed bytes told new.left (subst (λ left. Consumes left new.left bytes) is read.consumes) read.at_end
 
-  pub such_of : {A : Type 0} (words : List A) (before : JudgeStatus) → HasCause words old new before → SpeaksOfBytes before
+  pub such_of : {A : Type 0} (words : List A) (before : JudgeStatus) → HasJudgeCause words old new before → SpeaksOfBytes before
       → HasReadSuch old new before
   such_of [] (Lawful records) cause speaks = cause
   such_of [] (Unlawful k) cause speaks = cause
@@ -84,13 +84,13 @@ module _ (old new : SourceState) where
   such_of [] other cause speaks = absurd speaks
   such_of (word ∷ words) before cause speaks = absurd (subst SpeaksOfBytes cause.0 speaks)
 
-  pub exactly : {A : Type 0} (words : List A) (before : JudgeStatus) → HasCause words old new before → (told : List ℕ) (status : JudgeStatus)
+  pub exactly : {A : Type 0} (words : List A) (before : JudgeStatus) → HasJudgeCause words old new before → (told : List ℕ) (status : JudgeStatus)
       → old.left ≡ Some told → SpeaksOfBytes before → IsSaidOf told status → before ≡ status
   exactly words before cause told status is speaks said =
       let such = such_of words before cause speaks in
       one_is_said told before status (subst (λ bytes. IsSaidOf bytes before) (bytes_told such.bytes told such.read is) such.said) said
 
-  pub read_well : (bytes : List ℕ) → HasReadAll most_bytes old new bytes → HasReadWithoutFault most_bytes old new
+  pub read_well : (bytes : List ℕ) → HasReadAll most_log_bytes old new bytes → HasReadWithoutFault most_log_bytes old new
   read_well bytes all = record {
     read = record { bytes = bytes; within = all.within; consumes = all.consumes };
     faults = all.faults;
@@ -111,14 +111,14 @@ module _ (old new : SourceState) where
 -- ---- what a status says of the reading, whichever it is
 
 pub record HasReadFor (old new : SourceState) (status : JudgeStatus) : Type 0 where
-  pub read : status ≢ TooLong → HasReadAtMost most_bytes old new
-  pub too_long : status ≡ TooLong → HasReadTooMany most_bytes old new
-  pub failed : status ≡ ReadFault → HasReadUntilFault most_bytes old new
-  pub no_memory : status ≡ NoMemory → HasReadWithoutFault most_bytes old new
+  pub read : status ≢ TooLong → HasReadAtMost most_log_bytes old new
+  pub too_long : status ≡ TooLong → HasReadTooMany most_log_bytes old new
+  pub failed : status ≡ ReadFault → HasReadUntilFault most_log_bytes old new
+  pub no_memory : status ≡ NoMemory → HasReadWithoutFault most_log_bytes old new
   pub unfailed : status ≢ ReadFault → new.faults ≡ old.faults
 
 module _ (old new : SourceState) where
-  well : (status : JudgeStatus) → HasReadWithoutFault most_bytes old new → status ≢ TooLong → status ≢ ReadFault → HasReadFor old new status
+  well : (status : JudgeStatus) → HasReadWithoutFault most_log_bytes old new → status ≢ TooLong → status ≢ ReadFault → HasReadFor old new status
   well status read short unfailed = record {
     read = λ _. read.read;
     too_long = λ is. absurd (short is);
@@ -152,13 +152,13 @@ module _ (old new : SourceState) where
   cause_for Usage cause = absurd cause
   cause_for WriteFault cause = absurd cause
 
-  untouched : new ≡ old → HasReadWithoutFault most_bytes old new
-  untouched is = subst (HasReadWithoutFault most_bytes old) (sym is) (record {
+  untouched : new ≡ old → HasReadWithoutFault most_log_bytes old new
+  untouched is = subst (HasReadWithoutFault most_log_bytes old) (sym is) (record {
     read = record { bytes = []; within = omega arith; consumes = Consumes-nil old.left };
     faults = refl;
   })
 
-  pub read_for : {A : Type 0} (words : List A) (status : JudgeStatus) → HasCause words old new status → HasReadFor old new status
+  pub read_for : {A : Type 0} (words : List A) (status : JudgeStatus) → HasJudgeCause words old new status → HasReadFor old new status
   read_for [] status cause = cause_for status cause
   read_for (word ∷ words) status cause = subst (HasReadFor old new) (sym cause.0) (well Usage (untouched cause.1) (λ is. cc) (λ is. cc))
 
@@ -173,25 +173,25 @@ module _ (old new : SourceState) where
   not_writing WriteFault cause = absurd cause
   not_writing other cause = λ is. cc
 
-  pub usage_exactly : {A : Type 0} (words : List A) (status : JudgeStatus) → HasCause words old new status → (status ≡ Usage) ↔ (words ≢ [])
+  pub usage_exactly : {A : Type 0} (words : List A) (status : JudgeStatus) → HasJudgeCause words old new status → (status ≡ Usage) ↔ (words ≢ [])
   usage_exactly [] status cause = (λ is. absurd (not_usage status cause is), λ some. absurd (some refl))
   usage_exactly (word ∷ words) status cause = (λ is. λ none. cc, λ some. cause.0)
 
-  pub usage_untouched : {A : Type 0} (words : List A) (status : JudgeStatus) → HasCause words old new status → status ≡ Usage → new ≡ old
+  pub usage_untouched : {A : Type 0} (words : List A) (status : JudgeStatus) → HasJudgeCause words old new status → status ≡ Usage → new ≡ old
   usage_untouched [] status cause is = absurd (not_usage status cause is)
   usage_untouched (word ∷ words) status cause is = cause.1
 
-  pub never_writing : {A : Type 0} (words : List A) (status : JudgeStatus) → HasCause words old new status → status ≢ WriteFault
+  pub never_writing : {A : Type 0} (words : List A) (status : JudgeStatus) → HasJudgeCause words old new status → status ≢ WriteFault
   never_writing [] status cause = not_writing status cause
   never_writing (word ∷ words) status cause = λ is. let both = sym cause.0 ∙ is in cc
 
 -- all was written, or a write failed
 pub written_so : (old new : SinkState) (text : List ℕ) (before : JudgeStatus) (written : Written) → WritesText old new text All written
-    → HasWritten old new text before (with_writing before written)
+    → HasWrittenLine old new text before (judge_status_with_writing before written)
 written_so old new text before All w = inl (refl, w.answer)
 written_so old new text before Failed w = inr (refl, w.answer)
 
-pub write_failed : (old new : SinkState) (text : List ℕ) (before status : JudgeStatus) → HasWritten old new text before status → before ≢ WriteFault
-    → status ≡ WriteFault → HasRisen old.faults new.faults
+pub write_failed : (old new : SinkState) (text : List ℕ) (before status : JudgeStatus) → HasWrittenLine old new text before status
+    → before ≢ WriteFault → status ≡ WriteFault → HasRisen old.faults new.faults
 write_failed old new text before status (inl all) other is = absurd (other (sym all.0 ∙ is))
 write_failed old new text before status (inr first) other is = let fails = first.1 in fails.risen

@@ -11,7 +11,7 @@ use Rattle.tap_lawful.specs.Runs.{IsLawful}
 use Rattle.tap_own_scripts.specs.Judging.{IsUnlawful}
 use Rattle.tap_report.specs.Written.{AppendsAll, FirstFails}
 use Rattle.tap_shape.specs.Text.{IsNotLog, IsTextOf}
-use Rattle.tap_judge.specs.Limits.{most_bytes}
+use Rattle.tap_judge.specs.Limits.{most_log_bytes}
 use Rattle.tap_judge.specs.declared.status.JudgeStatus.{JudgeStatus}
 use Rattle.tap_judge.specs.declared.status.JudgeStatus.TheVariants.{Lawful, Unlawful, NotLog, TooLong, Usage, ReadFault, WriteFault, NoMemory}
 
@@ -58,20 +58,20 @@ OneIsSaid = (bytes : List ℕ) (one other : JudgeStatus) → IsSaidOf bytes one 
 -- all bytes of the source are such of which the status is said
 pub record HasReadSuch (old new : SourceState) (status : JudgeStatus) : Type 0 where
   pub bytes : List ℕ
-  pub read : HasReadAll most_bytes old new bytes
+  pub read : HasReadAll most_log_bytes old new bytes
   pub said : IsSaidOf bytes status
 
 -- all bytes of the source are the text of this log
 pub record HasReadLog (old new : SourceState) (log : List Record) : Type 0 where
   pub bytes : List ℕ
-  pub read : HasReadAll most_bytes old new bytes
+  pub read : HasReadAll most_log_bytes old new bytes
   pub text : IsTextOf bytes log
 
 -- Why the bytes weren't read to their end. The status is none of the others.
 abbrev pub IsNotRead : SourceState → SourceState → JudgeStatus → Type 0
-IsNotRead old new TooLong = HasReadTooMany most_bytes old new
-IsNotRead old new ReadFault = HasReadUntilFault most_bytes old new
-IsNotRead old new NoMemory = HasReadWithoutFault most_bytes old new
+IsNotRead old new TooLong = HasReadTooMany most_log_bytes old new
+IsNotRead old new ReadFault = HasReadUntilFault most_log_bytes old new
+IsNotRead old new NoMemory = HasReadWithoutFault most_log_bytes old new
 IsNotRead old new other = ⊥
 
 -- all bytes of the source are the text of a lawful log with so many records, which has the headline at each of its moments
@@ -84,22 +84,22 @@ pub record HasReadLawful (old new : SourceState) (records : ℕ) : Type 0 where
 
 -- Why a call without words ends so, writing aside. Words and writing are none of these causes.
 abbrev pub IsCauseOf : SourceState → SourceState → JudgeStatus → Type 0
-IsCauseOf old new TooLong = HasReadTooMany most_bytes old new
-IsCauseOf old new ReadFault = HasReadUntilFault most_bytes old new
-IsCauseOf old new NoMemory = HasReadWithoutFault most_bytes old new
+IsCauseOf old new TooLong = HasReadTooMany most_log_bytes old new
+IsCauseOf old new ReadFault = HasReadUntilFault most_log_bytes old new
+IsCauseOf old new NoMemory = HasReadWithoutFault most_log_bytes old new
 IsCauseOf old new Usage = ⊥
 IsCauseOf old new WriteFault = ⊥
 IsCauseOf old new status = HasReadSuch old new status
 
 -- the same of a call that has words or none: with one nothing is read
-abbrev pub HasCause : {A : Type 0} → List A → SourceState → SourceState → JudgeStatus → Type 0
-HasCause [] old new status = IsCauseOf old new status
-HasCause (word ∷ words) old new status = (status ≡ Usage) × (new ≡ old)
+abbrev pub HasJudgeCause : {A : Type 0} → List A → SourceState → SourceState → JudgeStatus → Type 0
+HasJudgeCause [] old new status = IsCauseOf old new status
+HasJudgeCause (word ∷ words) old new status = (status ≡ Usage) × (new ≡ old)
 
 -- ---- what is written
 
 -- All of the line was written, and the sink counted no fault; or a write failed, which the status says: some first bytes of the line were
 -- written, and the sink counted a fault.
-abbrev pub HasWritten : SinkState → SinkState → List ℕ → JudgeStatus → JudgeStatus → Type 0
-HasWritten old new text before status =
+abbrev pub HasWrittenLine : SinkState → SinkState → List ℕ → JudgeStatus → JudgeStatus → Type 0
+HasWrittenLine old new text before status =
     ((status ≡ before) × AppendsAll old new text) ⊎ ((status ≡ WriteFault) × FirstFails old new text)

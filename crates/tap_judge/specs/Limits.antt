@@ -2,5 +2,5 @@
 use Rattle.std.specs.Prelude.{ℕ}
 
 -- how many bytes the text of a log may have
-abbrev pub most_bytes : ℕ
-most_bytes = 33554432
+abbrev pub most_log_bytes : ℕ
+most_log_bytes = 33554432

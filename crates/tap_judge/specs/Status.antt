@@ -7,15 +7,15 @@ use Rattle.tap_report.specs.declared.written.Written.TheVariants.{All, Failed}
 use Rattle.tap_judge.specs.declared.status.JudgeStatus.{JudgeStatus}
 use Rattle.tap_judge.specs.declared.status.JudgeStatus.TheVariants.{Lawful, Unlawful, NotLog, TooLong, Usage, ReadFault, WriteFault, NoMemory}
 
-abbrev pub exit_code : JudgeStatus → ℕ
-exit_code (Lawful records) = 0
-exit_code ReadFault = 1
-exit_code Usage = 2
-exit_code (NotLog line) = 3
-exit_code TooLong = 3
-exit_code WriteFault = 4
-exit_code NoMemory = 6
-exit_code (Unlawful k) = 7
+abbrev pub judge_exit_code : JudgeStatus → ℕ
+judge_exit_code (Lawful records) = 0
+judge_exit_code ReadFault = 1
+judge_exit_code Usage = 2
+judge_exit_code (NotLog line) = 3
+judge_exit_code TooLong = 3
+judge_exit_code WriteFault = 4
+judge_exit_code NoMemory = 6
+judge_exit_code (Unlawful k) = 7
 
 -- the one line that is written; none if there is no way to write it
 abbrev pub line_of_status : JudgeStatus → List ℕ
@@ -29,6 +29,6 @@ line_of_status WriteFault = []
 line_of_status NoMemory = codes "judge: no memory\n"
 
 -- the status, by what it is without regard to writing, and by whether all was written
-abbrev pub with_writing : JudgeStatus → Written → JudgeStatus
-with_writing before All = before
-with_writing before Failed = WriteFault
+abbrev pub judge_status_with_writing : JudgeStatus → Written → JudgeStatus
+judge_status_with_writing before All = before
+judge_status_with_writing before Failed = WriteFault

@@ -2,7 +2,7 @@ ghost use Rattle.std.specs.Prelude.{◌≤◌, IfErr, IfOk, length};
 ghost use Rattle.tap_io.specs.AllBytes.{HasReadAll};
 ghost use Rattle.tap_shape.specs.Text.{IsTextOf};
 ghost use Rattle.tap_judge.specs.Ending.{IsAnswerOn, IsNotRead};
-ghost use Rattle.tap_judge.specs.Limits.{most_bytes};
+ghost use Rattle.tap_judge.specs.Limits.{most_log_bytes};
 
 use crate::status::JudgeStatus;
 use std::alloc::Global;
@@ -17,7 +17,7 @@ pub const MOST_BYTES: usize = 33_554_432;
 
 // All bytes of a source, or how the call ends without them.
 pub(crate) fn source_bytes<S: Source>(alloc: Global, source: &mut S) -> Result<Vec<u8>, JudgeStatus>
-    ensures bytes { IfOk result (λ bytes. HasReadAll most_bytes (S.state source.old) (S.state source.new) bytes.items) }
+    ensures bytes { IfOk result (λ bytes. HasReadAll most_log_bytes (S.state source.old) (S.state source.new) bytes.items) }
     ensures cause { IfErr result (IsNotRead (S.state source.old) (S.state source.new)) }
 {
     match read_all(alloc, source, MOST_BYTES) {
@@ -30,7 +30,7 @@ pub(crate) fn source_bytes<S: Source>(alloc: Global, source: &mut S) -> Result<V
 
 // The log of which these bytes are the text, or how the call ends without one. The bytes are dropped.
 pub(crate) fn log_of_bytes(alloc: Global, bytes: Vec<u8>) -> Result<Log, JudgeStatus>
-    requires few { length bytes.items ≤ most_bytes }
+    requires few { length bytes.items ≤ most_log_bytes }
     ensures log { IfOk result (λ log. IsTextOf bytes.items log.records) }
     ensures cause { IfErr result (IsAnswerOn bytes.items) }
 {

@@ -1,5 +1,5 @@
 ghost use Rattle.std.specs.Prelude.{◌≡◌};
-ghost use Rattle.tap_judge.specs.Status.{exit_code, with_writing};
+ghost use Rattle.tap_judge.specs.Status.{judge_exit_code, judge_status_with_writing};
 
 use tap_report::Written;
 
@@ -33,7 +33,7 @@ impl JudgeStatus {
     ///
     /// Rule: docs/FORMATS.md, "The judge".
     pub fn exit_code(&self) -> u8
-        ensures { result ≡ exit_code self.now }
+        ensures { result ≡ judge_exit_code self.now }
     {
         match self {
             JudgeStatus::Lawful(_) => 0,
@@ -48,7 +48,7 @@ impl JudgeStatus {
 
     // How it ends, if it would end so without a failed write.
     pub(crate) fn with_writing(self, written: Written) -> JudgeStatus
-        ensures { result ≡ with_writing self written }
+        ensures { result ≡ judge_status_with_writing self written }
     {
         match written {
             Written::All => self,

@@ -1,8 +1,8 @@
 ghost use Rattle.std.specs.Prelude.{◌≡◌, ◌≢◌, ◌↔◌, ◌≤◌, ℕ, List, [], Some, length};
 ghost use Rattle.tap_io.specs.AllBytes.{HasReadAtMost, HasReadTooMany, HasReadUntilFault, HasReadWithoutFault};
 ghost use Rattle.tap_io.specs.Faults.{HasRisen};
-ghost use Rattle.tap_judge.specs.Ending.{HasCause, HasReadLawful, HasReadSuch, HasWritten, IsAnswerOn, IsCauseOf, IsSaidOf, SpeaksOfBytes};
-ghost use Rattle.tap_judge.specs.Limits.{most_bytes};
+ghost use Rattle.tap_judge.specs.Ending.{HasJudgeCause, HasReadLawful, HasReadSuch, HasWrittenLine, IsAnswerOn, IsCauseOf, IsSaidOf, SpeaksOfBytes};
+ghost use Rattle.tap_judge.specs.Limits.{most_log_bytes};
 ghost use Rattle.tap_judge.specs.Status.{line_of_status};
 
 use crate::judging::judge;
@@ -29,8 +29,8 @@ pub fn judge_run<S: Source, K: Sink>(
     sink: &mut K,
 ) -> Judged
     // Why it ends so, and the line that is written, or some first bytes of it.
-    ensures cause { HasCause words.now.items (S.state source.old) (S.state source.new) result.before }
-    ensures written { HasWritten (K.state sink.old) (K.state sink.new) (line_of_status result.before) result.before result.status }
+    ensures cause { HasJudgeCause words.now.items (S.state source.old) (S.state source.new) result.before }
+    ensures written { HasWrittenLine (K.state sink.old) (K.state sink.new) (line_of_status result.before) result.before result.status }
 
     // The same, status by status. A lawful log has the headline at each of its moments.
     ensures lawful { (records : ℕ) → result.before ≡ JudgeStatus.Lawful records
@@ -39,10 +39,10 @@ pub fn judge_run<S: Source, K: Sink>(
         → HasReadSuch (S.state source.old) (S.state source.new) result.before }
     ensures not_log { (line : ℕ) → result.before ≡ JudgeStatus.NotLog line
         → HasReadSuch (S.state source.old) (S.state source.new) result.before }
-    ensures too_long { result.before ≡ JudgeStatus.TooLong → HasReadTooMany most_bytes (S.state source.old) (S.state source.new) }
+    ensures too_long { result.before ≡ JudgeStatus.TooLong → HasReadTooMany most_log_bytes (S.state source.old) (S.state source.new) }
     ensures usage { (result.before ≡ JudgeStatus.Usage) ↔ (words.now.items ≢ []) }
-    ensures read_fault { result.before ≡ JudgeStatus.ReadFault → HasReadUntilFault most_bytes (S.state source.old) (S.state source.new) }
-    ensures no_memory { result.before ≡ JudgeStatus.NoMemory → HasReadWithoutFault most_bytes (S.state source.old) (S.state source.new) }
+    ensures read_fault { result.before ≡ JudgeStatus.ReadFault → HasReadUntilFault most_log_bytes (S.state source.old) (S.state source.new) }
+    ensures no_memory { result.before ≡ JudgeStatus.NoMemory → HasReadWithoutFault most_log_bytes (S.state source.old) (S.state source.new) }
     ensures write_fault { result.status ≡ JudgeStatus.WriteFault → HasRisen (K.state sink.old).faults (K.state sink.new).faults }
     ensures before { result.before ≢ JudgeStatus.WriteFault }
 
@@ -52,7 +52,7 @@ pub fn judge_run<S: Source, K: Sink>(
 
     // No more than so many bytes are read unless the text is too long, and no read fails unless the status says so. A word leaves the source as it
     // was.
-    ensures read { result.before ≢ JudgeStatus.TooLong → HasReadAtMost most_bytes (S.state source.old) (S.state source.new) }
+    ensures read { result.before ≢ JudgeStatus.TooLong → HasReadAtMost most_log_bytes (S.state source.old) (S.state source.new) }
     ensures unfailed { result.before ≢ JudgeStatus.ReadFault → (S.state source.new).faults ≡ (S.state source.old).faults }
     ensures source { result.before ≡ JudgeStatus.Usage → S.state source.new ≡ S.state source.old }
 {
@@ -66,7 +66,7 @@ pub fn judge_run<S: Source, K: Sink>(
 
 // Judges the log of a source, if there is no word.
 fn judge_unless_words<S: Source>(alloc: Global, words: &Vec<String>, source: &mut S) -> JudgeStatus
-    ensures { HasCause words.now.items (S.state source.old) (S.state source.new) result }
+    ensures { HasJudgeCause words.now.items (S.state source.old) (S.state source.new) result }
 {
     if words.is_empty() {
         return judge_source(alloc, source);
@@ -86,7 +86,7 @@ fn judge_source<S: Source>(alloc: Global, source: &mut S) -> JudgeStatus
 
 // Judges the log of which the bytes are the text. A lawful text is mostly what the run of its own scenario prints.
 fn judge_bytes(alloc: Global, bytes: Vec<u8>) -> JudgeStatus
-    requires few { length bytes.items ≤ most_bytes }
+    requires few { length bytes.items ≤ most_log_bytes }
     ensures { IsAnswerOn bytes.items result }
 {
     match record_count_as_printed(alloc, bytes.as_slice()) {
@@ -98,7 +98,7 @@ fn judge_bytes(alloc: Global, bytes: Vec<u8>) -> JudgeStatus
 
 // The same, by reading all lines.
 fn judge_each_line(alloc: Global, bytes: Vec<u8>) -> JudgeStatus
-    requires few { length bytes.items ≤ most_bytes }
+    requires few { length bytes.items ≤ most_log_bytes }
     ensures { IsAnswerOn bytes.items result }
 {
     let log = match log_of_bytes(alloc, bytes) {
