@@ -1,5 +1,5 @@
 -- A start or an observation: its group is added, or it is refused, or it would send too many frames.
-use Rattle.std.proofs.Common.{◌≡◌, ◌≢◌, ℕ, ◌+◌, ◌<◌, ◌≤◌, false, true, List, [], ◌∷◌, ◌++◌, length, take, All, None, Some, Result, Ok, Err, refl, ap, sym, subst, ◌∙◌, arith, append-nil, append_assoc, length-append}
+use Rattle.std.proofs.Common.{◌≡◌, ◌≢◌, ℕ, ◌≤◌, false, List, [], ◌∷◌, ◌++◌, length, take, All, None, Some, Result, Ok, Err, refl, ap, sym, subst, ◌∙◌, arith, append-nil, append_assoc, length-append}
 use Rattle.std.specs.Prelude.{if◌then◌else◌}
 use Rattle.tap_scenario.specs.Scenario.{ScenarioValue}
 use Rattle.tap_scenario.specs.declared.step.Step.{Step}
@@ -8,7 +8,7 @@ use Rattle.tap_log.specs.declared.record.Record.TheVariants.{Refused as RefusedR
 use Rattle.tap_log.specs.declared.record.Refusal.{Refusal}
 use Rattle.tap_log.specs.Counts.{packet_count, resends, sent_count}
 use Rattle.tap_log.specs.Kinds.{sent_number}
-use Rattle.tap_log.specs.Log.{EachFrom, EachRecord}
+use Rattle.tap_log.specs.Log.{EachFrom}
 use Rattle.tap_log.specs.Reduced.{reduced}
 use Rattle.tap_log.proofs.MoreRecords.{sent_count-append}
 use Rattle.tap_history.specs.Refusals.{first_refusal}
@@ -33,7 +33,7 @@ use Rattle.tap_carrier.proofs.KeptCarrier.{keeps_plain, keeps_refused, keeps_ste
 use Rattle.tap_carried_world.specs.Adds.{AddsNext, HasAdded, HasLacked, HasSpent}
 use Rattle.tap_carried_world.specs.Comes.{BeginsNext}
 use Rattle.tap_carried_world.specs.Value.{CarriesRun}
-use Rattle.tap_carried_world.proofs.Adding.{StillGoes, has_added, has_spent, lacks_all, lacks_some}
+use Rattle.tap_carried_world.proofs.Adding.{has_added, has_spent, lacks_all, lacks_some}
 use Rattle.tap_carried_world.proofs.Carrying.{packets_are, to_carry}
 use Rattle.tap_carried_world.proofs.Chosen.{refusal_comes, refused_plain, within_after}
 use Rattle.tap_carried_world.proofs.Fronts.{all_front, each_front}
@@ -41,7 +41,7 @@ use Rattle.tap_carried_world.proofs.KeepsOn.{keeps_start, plain_records}
 use Rattle.tap_carried_world.proofs.NextGroups.{acted_next, refused_next}
 use Rattle.tap_carried_world.proofs.NodeRecords.{IsPlainGroup, observation_sends_none, sent_with_packets, step_is_plain, step_sends}
 use Rattle.tap_carried_world.proofs.RunLogs.{Laws, few_frames, few_packets, front_comes, group_comes, heads_longer, packets_kept, turns_kept}
-use Rattle.tap_carried_world.proofs.Worlds.{IsActing, few_sent, goes_on_with, many_sent, refused_alike, refused_log, started_log, step_unended}
+use Rattle.tap_carried_world.proofs.Worlds.{IsActing, few_sent, goes_on_with, many_sent, refused_alike, started_log, step_unended}
 
 module _ (laws : Laws) (s : ScenarioValue) (w : WorldValue) (c : CarrierValue) (of : CarriesRun s w c) (index : ℕ) (step : Step)
     (next : BeginsNext s w index step) (acting : IsActing step) (plain : reduced (whole_log w) ≡ w.log) where

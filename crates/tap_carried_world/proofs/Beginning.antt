@@ -1,5 +1,5 @@
 -- A carried run begins, and ends once all steps were run.
-use Rattle.std.proofs.Common.{◌≡◌, ◌≢◌, ℕ, ◌+◌, Bool, false, true, List, [], ◌∷◌, ◌++◌, length, take, None, Result, Ok, Err, refl, ap, sym, subst, ◌∙◌}
+use Rattle.std.proofs.Common.{◌≡◌, ◌≢◌, ℕ, Bool, false, true, List, [], ◌∷◌, ◌++◌, length, take, None, Result, Ok, Err, refl, ap, sym, subst, ◌∙◌}
 use Rattle.std.specs.Prelude.{if◌then◌else◌}
 use Rattle.tap_scenario.specs.Scenario.{IsScript, ScenarioValue}
 use Rattle.tap_log.specs.declared.record.Record.{Record}
@@ -13,7 +13,7 @@ use Rattle.tap_ledger.proofs.Woven.{woven_nothing}
 use Rattle.tap_runs.specs.Beginning.{Beginning, begin_record}
 use Rattle.tap_carried.specs.LogTurns.{beginning_records}
 use Rattle.tap_engine.specs.Kinds.{finishes_run, is_finished}
-use Rattle.tap_engine.specs.Outcome.{MayGoOn, WorldAnswersAs, WorldOutcome, adds, finish_outcome, world_stays}
+use Rattle.tap_engine.specs.Outcome.{MayGoOn, WorldAnswersAs, adds, finish_outcome, world_stays}
 use Rattle.tap_engine.specs.World.{HasBegun, WorldValue, whole_log}
 use Rattle.tap_engine.specs.declared.stop.Stop.{Stop}
 use Rattle.tap_engine.specs.declared.stop.Stop.TheVariants.{Ended, NoMemory}

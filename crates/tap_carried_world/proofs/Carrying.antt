@@ -1,5 +1,5 @@
 -- The data packets of a group, made by `Carrier::carry_since` once its frames are in the log.
-use Rattle.std.proofs.Common.{◌≡◌, ℕ, ◌+◌, ◌≤◌, List, [], ◌∷◌, ◌++◌, length, All, refl, ap, sym, subst, ◌∙◌, arith, length-append}
+use Rattle.std.proofs.Common.{◌≡◌, ◌≤◌, List, ◌++◌, length, All, ap, sym, subst, ◌∙◌, arith, length-append}
 use Rattle.std.specs.Prelude.{drop, map, take}
 use Rattle.std.proofs.Math.Seq.{drop-append_seam, take-append_seam}
 use Rattle.tap_name.specs.Settings.{SettingsValue}

@@ -1,6 +1,6 @@
 -- When a choice is refused, and that a packet is at its place if it isn't.
 use Rattle.std.proofs.Common.{◌≡◌, ℕ, ◌<◌, Bool, false, true, List, length, Option, None, Some, IsTrue, refl, ap, sym, ◌∙◌}
-use Rattle.std.specs.Prelude.{nat_le, slice_get}
+use Rattle.std.specs.Prelude.{nat_le}
 use Rattle.std.proofs.lemmas.Bool.{false≢true, leb-false}
 use Rattle.std.proofs.lemmas.List.{length-map}
 use Rattle.std.proofs.lemmas.Option.{none-some}

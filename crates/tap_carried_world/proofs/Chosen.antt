@@ -1,5 +1,5 @@
 -- A choice adds its group: the step alone, or with its refusal, or with the packet that is lost or made once more.
-use Rattle.std.proofs.Common.{◌≡◌, ◌≢◌, inr, ℕ, ◌+◌, ◌<◌, ◌≤◌, false, true, List, [], ◌∷◌, ◌++◌, length, take, None, Some, Result, Ok, Err, IsTrue, refl, ap, sym, subst, ◌∙◌, arith, append-nil, append_assoc, length-append}
+use Rattle.std.proofs.Common.{◌≡◌, ◌≢◌, inr, ℕ, ◌≤◌, false, true, List, [], ◌∷◌, ◌++◌, length, take, None, Some, Result, Ok, Err, IsTrue, refl, ap, sym, subst, ◌∙◌, arith, append-nil, append_assoc, length-append}
 use Rattle.std.specs.Prelude.{if◌then◌else◌, slice_get}
 use Rattle.tap_scenario.specs.Scenario.{ScenarioValue}
 use Rattle.tap_scenario.specs.Step.{asks_no_roots}
@@ -8,7 +8,7 @@ use Rattle.tap_scenario.specs.declared.step.Step.TheVariants.{Lose, Repeat}
 use Rattle.tap_log.specs.declared.record.Record.{Record}
 use Rattle.tap_log.specs.declared.record.Record.TheVariants.{Lost, Refused as RefusedRecord, Step as StepRecord}
 use Rattle.tap_log.specs.declared.record.Refusal.{Refusal}
-use Rattle.tap_log.specs.Counts.{packet_count, resends, sent_count}
+use Rattle.tap_log.specs.Counts.{resends, sent_count}
 use Rattle.tap_log.specs.Kinds.{arrived_number, ended_number, is_carried, sent_number, taken_number}
 use Rattle.tap_log.specs.Log.{EachFrom, last_of}
 use Rattle.tap_log.proofs.MoreRecords.{last_of-push, sent_count-append}
@@ -29,16 +29,16 @@ use Rattle.tap_engine.specs.declared.stop.Stop.TheVariants.{Ended, NoMemory, Ref
 use Rattle.tap_engine.proofs.WholeLogs.{RecordsAreAdded, StepIsRefused, whole_short}
 use Rattle.tap_lawful.specs.CarriedNext.{carried_next_group, choice_group}
 use Rattle.tap_carrier.specs.Carrier.{CarrierValue}
-use Rattle.tap_carrier.specs.Kept.{Keeps, KeepsLog}
+use Rattle.tap_carrier.specs.Kept.{Keeps}
 use Rattle.tap_carrier.specs.Sending.{FallsShort, HasDropped, HasPut, RemarksAll, put_record}
 use Rattle.tap_carrier.proofs.KeptCarrier.{keeps_lost, keeps_plain, keeps_put, keeps_refused, keeps_step}
-use Rattle.tap_carried_world.specs.Adds.{AddsNext, HasAdded, HasLacked}
+use Rattle.tap_carried_world.specs.Adds.{AddsNext, HasAdded}
 use Rattle.tap_carried_world.specs.Comes.{BeginsNext}
 use Rattle.tap_carried_world.specs.Value.{CarriesRun}
-use Rattle.tap_carried_world.proofs.Adding.{StillGoes, has_added, lacks_all, lacks_front}
+use Rattle.tap_carried_world.proofs.Adding.{has_added, lacks_all, lacks_front}
 use Rattle.tap_carried_world.proofs.Choices.{counted, refusable}
 use Rattle.tap_carried_world.proofs.NextGroups.{choice_next, lose_chosen, refused_next, repeat_chosen}
-use Rattle.tap_carried_world.proofs.RunLogs.{Laws, group_comes, packets_kept, turns_kept}
+use Rattle.tap_carried_world.proofs.RunLogs.{Laws, group_comes, packets_kept}
 use Rattle.tap_carried_world.proofs.Worlds.{refused_log, went_not_short}
 
 -- ---- a step that is added alone

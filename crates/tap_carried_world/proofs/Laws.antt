@@ -1,5 +1,5 @@
 -- The laws of carried runs on which the calls rest.
-use Rattle.std.proofs.Common.{◌≡◌, inl, List, All, get_or, refl}
+use Rattle.std.proofs.Common.{inl, get_or, refl}
 use Rattle.tap_name.specs.Settings.{SettingsValue}
 use Rattle.tap_log.specs.declared.record.Record.{Record}
 use Rattle.tap_log.specs.declared.record.Record.TheVariants.{Sent}

@@ -1,5 +1,5 @@
 -- Which group comes next, by what is due and by the step that begins.
-use Rattle.std.proofs.Common.{◌≡◌, ℕ, ◌+◌, Bool, true, false, List, [], ◌∷◌, Option, None, Some, refl, ap, sym, ◌∙◌}
+use Rattle.std.proofs.Common.{◌≡◌, ℕ, ◌+◌, Bool, true, false, List, [], ◌∷◌, Option, None, Some, ap, sym, ◌∙◌}
 use Rattle.std.specs.Prelude.{slice_get}
 use Rattle.std.specs.Option.{option_map}
 use Rattle.tap_name.specs.Settings.{SettingsValue}
@@ -11,12 +11,12 @@ use Rattle.tap_log.specs.declared.record.Record.TheVariants.{Arrived, Refused, S
 use Rattle.tap_log.specs.declared.record.Refusal.{Refusal}
 use Rattle.tap_history.specs.Moments.{has_number, outstanding}
 use Rattle.tap_history.specs.Refusals.{first_refusal}
-use Rattle.tap_packets.specs.Groups.{arrival_group, arrival_records, carried_step_group, lose_group, repeat_group, tick_group}
+use Rattle.tap_packets.specs.Groups.{arrival_records, carried_step_group, lose_group, repeat_group, tick_group}
 use Rattle.tap_packets.specs.Packets.{PacketLine, lines_under_way}
 use Rattle.tap_runs.specs.Course.{is_choice}
-use Rattle.tap_lawful.specs.CarriedDue.{Due, carried_due}
+use Rattle.tap_lawful.specs.CarriedDue.{carried_due}
 use Rattle.tap_lawful.specs.CarriedDue.Due.{ArrivalDue, TickDue}
-use Rattle.tap_lawful.specs.CarriedNext.{accepted_group, begun_group, carried_group_after, carried_next_group, carried_step_next, choice_group, group_unless, losing_group, reduced_step_records, reduced_taken_records, repeating_group}
+use Rattle.tap_lawful.specs.CarriedNext.{accepted_group, begun_group, carried_group_after, carried_next_group, choice_group, group_unless, losing_group, reduced_step_records, reduced_taken_records, repeating_group}
 use Rattle.tap_lawful.specs.Next.{begun_count, next_step}
 
 module _ (s : ScenarioValue) (log : List Record) where

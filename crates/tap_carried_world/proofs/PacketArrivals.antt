@@ -1,13 +1,13 @@
 -- A packet that is due arrives: an acknowledgement, or a data packet whose frame was taken before.
-use Rattle.std.proofs.Common.{◌≡◌, ℕ, ◌+◌, ◌<◌, ◌≤◌, Bool, false, true, not, List, [], ◌∷◌, ◌++◌, length, take, None, Some, Result, Ok, Err, IsTrue, refl, ap, sym, subst, ◌∙◌, arith, append-nil, append_assoc}
+use Rattle.std.proofs.Common.{◌≡◌, ℕ, ◌<◌, ◌≤◌, Bool, false, true, not, List, [], ◌∷◌, ◌++◌, length, None, Some, Result, Ok, Err, IsTrue, refl, ap, sym, subst, ◌∙◌, arith, append_assoc}
 use Rattle.std.proofs.lemmas.Bool.{false≢true}
-use Rattle.std.specs.Prelude.{Contains, slice_get}
+use Rattle.std.specs.Prelude.{Contains}
 use Rattle.tap_scenario.specs.Scenario.{ScenarioValue}
 use Rattle.tap_log.specs.declared.record.Record.{Record}
 use Rattle.tap_log.specs.declared.record.Record.TheVariants.{Arrived}
 use Rattle.tap_log.specs.Counts.{packet_count, sent_count}
 use Rattle.tap_log.specs.Kinds.{sent_number, taken_number}
-use Rattle.tap_log.specs.Log.{EachFrom, EachRecord}
+use Rattle.tap_log.specs.Log.{EachFrom}
 use Rattle.tap_log.specs.Reduced.{reduced}
 use Rattle.tap_log.proofs.MoreRecords.{filter_map-same, sent_count-append}
 use Rattle.tap_history.specs.Moments.{has_number, numbers_less, outstanding}
@@ -15,13 +15,13 @@ use Rattle.tap_carry.specs.declared.net.Packet.{Packet}
 use Rattle.tap_carry.specs.Inbox.{has_arrived}
 use Rattle.tap_carry.specs.Net.{most_packets}
 use Rattle.tap_packets.specs.Groups.{ack_line, arrival_records}
-use Rattle.tap_packets.specs.Matching.{ArrivesAt, FrameArrives, Inboxes, InboxesMatch, NetMatches, OutboxesMatch, packet_along}
+use Rattle.tap_packets.specs.Matching.{ArrivesAt, NetMatches, OutboxesMatch, packet_along}
 use Rattle.tap_packets.specs.MayCome.{KeepsPackets, MayCome}
 use Rattle.tap_packets.specs.Packets.{PacketLine, frames_sent, frames_taken, lines_under_way, packet_record}
-use Rattle.tap_packets.specs.Sequence.{frame_ways, sequence_in, way_at}
+use Rattle.tap_packets.specs.Sequence.{frame_ways}
 use Rattle.tap_packets.proofs.BoxesByRecord.{boxes_answer_holds}
-use Rattle.tap_packets.proofs.OneRecord.{arrival-comes, kept-one, line-sent, ways-one}
-use Rattle.tap_boxes.specs.Boxes.{BoxesValue, InboxesValue, OutboxesValue, inbox_of, outbox_of}
+use Rattle.tap_packets.proofs.OneRecord.{arrival-comes, kept-one, line-sent}
+use Rattle.tap_boxes.specs.Boxes.{OutboxesValue, inbox_of, outbox_of}
 use Rattle.tap_boxes.specs.Changes.{HasAcked, HasArrived, is_awaited}
 use Rattle.tap_engine.specs.Kinds.{is_finished}
 use Rattle.tap_engine.specs.Outcome.{MayGoOn}
@@ -33,19 +33,17 @@ use Rattle.tap_carrier.specs.Carrier.{CarrierValue}
 use Rattle.tap_carrier.specs.Kept.{Keeps, KeepsLog}
 use Rattle.tap_carrier.specs.Sending.{FallsShort, HasDropped, HasPut, HasRemarked, RemarksAll, ack_of, put_record}
 use Rattle.tap_carrier.proofs.KeptCarrier.{awaited_counts, keeps_acked, keeps_arrived, keeps_data}
-use Rattle.tap_carried_world.specs.Adds.{AddsNext, HasAdded, HasLacked, IsLeft}
+use Rattle.tap_carried_world.specs.Adds.{AddsNext, HasAdded, IsLeft}
 use Rattle.tap_carried_world.specs.Comes.{ArrivesNext}
-use Rattle.tap_carried_world.specs.Taking.{CanTake, IsToTake}
 use Rattle.tap_carried_world.specs.Value.{CarriesRun}
-use Rattle.tap_carried_world.proofs.Acknowledging.{along_data, data_along, keeps_back, record_back}
+use Rattle.tap_carried_world.proofs.Acknowledging.{keeps_back, record_back}
 use Rattle.tap_carried_world.proofs.Adding.{StillGoes, has_added, lacks_all, lacks_front}
 use Rattle.tap_carried_world.proofs.Chosen.{none_stands}
-use Rattle.tap_carried_world.proofs.Fronts.{each_rest}
 use Rattle.tap_carried_world.proofs.KeepsOn.{matches_again}
 use Rattle.tap_carried_world.proofs.NextGroups.{arrival_next}
 use Rattle.tap_carried_world.proofs.NodeRecords.{arrived_sends, packets_at_arrival, reduced_arrival}
 use Rattle.tap_carried_world.proofs.PacketPlaces.{under_way_at}
-use Rattle.tap_carried_world.proofs.RunLogs.{Laws, few_packets, front_comes, group_comes, packets_kept}
+use Rattle.tap_carried_world.proofs.RunLogs.{Laws, few_packets, group_comes, packets_kept}
 
 pub arrived_sends_none : (number : ℕ) → sent_number (Arrived number) ≡ None
 unfolding sent_number

@@ -1,9 +1,9 @@
 -- Whether frames are stranded, by how many packets are under way and how many frames await.
-use Rattle.std.proofs.Common.{◌≡◌, ℕ, ◌+◌, ◌<◌, ◌≤◌, Bool, false, true, not, List, [], ◌∷◌, length, map, refl, ap, sym, ◌∙◌, arith}
+use Rattle.std.proofs.Common.{◌≡◌, ℕ, ◌≤◌, Bool, false, true, not, List, [], ◌∷◌, length, map, refl, ap, sym, ◌∙◌, arith}
 use Rattle.std.specs.Prelude.{◌&&◌, nat_lt}
 use Rattle.std.proofs.lemmas.Bool.{ltb-false, ltb-true}
 use Rattle.tap_log.specs.declared.record.Record.{Record}
-use Rattle.tap_history.specs.Moments.{awaiting, is_none, under_way}
+use Rattle.tap_history.specs.Moments.{awaiting, is_none}
 use Rattle.tap_packets.specs.Packets.{PacketLine, lines_under_way}
 use Rattle.tap_packets.proofs.GroupsCome.{groups_follow_hold}
 use Rattle.tap_lawful.specs.CarriedDue.{is_stranded}

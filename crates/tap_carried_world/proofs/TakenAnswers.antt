@@ -1,15 +1,14 @@
 -- What a world answers that takes the frame, and what then becomes of its packets.
-use Rattle.std.proofs.Common.{◌≡◌, ◌≢◌, ℕ, ◌+◌, ◌<◌, ◌≤◌, Bool, false, true, List, [], ◌∷◌, ◌++◌, length, take, None, Some, Result, Ok, Err, refl, ap, sym, subst, ◌∙◌, arith, append-nil, append_assoc, length-append}
-use Rattle.std.specs.Prelude.{if◌then◌else◌, nat_le, slice_get}
+use Rattle.std.proofs.Common.{◌≡◌, ◌≢◌, ℕ, ◌+◌, ◌≤◌, Bool, false, true, List, [], ◌∷◌, ◌++◌, length, take, Some, Result, Ok, Err, refl, ap, sym, subst, ◌∙◌, arith, append-nil, append_assoc, length-append}
+use Rattle.std.specs.Prelude.{if◌then◌else◌, slice_get}
 use Rattle.std.proofs.lemmas.Bool.{leb-false, leb-true}
 use Rattle.std.proofs.Math.Seq.{take-append-add}
 use Rattle.tap_scenario.specs.Scenario.{ScenarioValue}
 use Rattle.tap_log.specs.declared.record.Record.{Record}
 use Rattle.tap_log.specs.declared.record.Record.TheVariants.{Spent as SpentRecord, Taken}
-use Rattle.tap_log.specs.declared.record.Refusal.{Refusal}
 use Rattle.tap_log.specs.Counts.{sent_count}
 use Rattle.tap_log.specs.Reduced.{reduced}
-use Rattle.tap_history.specs.Moments.{has_number, outstanding}
+use Rattle.tap_history.specs.Moments.{outstanding}
 use Rattle.tap_ledger.specs.Woven.{RemarksWithin}
 use Rattle.tap_runs.specs.Groups.{taken_group}
 use Rattle.tap_engine.specs.Kinds.{is_finished}
@@ -19,9 +18,9 @@ use Rattle.tap_engine.specs.declared.stop.Stop.{Stop}
 use Rattle.tap_engine.specs.declared.stop.Stop.TheVariants.{Ended, NoMemory, Refused, Spent}
 use Rattle.tap_engine.proofs.WholeLogs.{TakeIsAdded, take_added, take_spent, take_unrefused, whole_short}
 use Rattle.tap_carrier.specs.Carrier.{CarrierValue}
-use Rattle.tap_carrier.specs.Kept.{Keeps, KeepsLog}
+use Rattle.tap_carrier.specs.Kept.{KeepsLog}
 use Rattle.tap_carrier.specs.Sending.{IsToCarry, RemarksAll, packets_since}
-use Rattle.tap_carried_world.specs.Taking.{CanTake, HasTaken, IsTakenShort, IsToTake, IsTooMuch, TakesFrame, records_of_taking}
+use Rattle.tap_carried_world.specs.Taking.{CanTake, IsToTake, TakesFrame, records_of_taking}
 use Rattle.tap_carried_world.proofs.KeepsOn.{keeps_taking}
 use Rattle.tap_carried_world.proofs.RunLogs.{Laws}
 use Rattle.tap_carried_world.proofs.Taking.{items, node_comes, node_group, node_takes, packets, records_are, sent_whole, take_carries, taken_same, taken_since, whole_kept, within_taking}

@@ -1,5 +1,5 @@
 -- A data packet arrives whose frame is outstanding: this is taken, and its group is added.
-use Rattle.std.proofs.Common.{◌≡◌, ℕ, ◌+◌, ◌<◌, ◌≤◌, false, true, List, [], ◌∷◌, ◌++◌, length, take, None, Some, Result, Ok, Err, refl, ap, sym, subst, ◌∙◌, arith, append-nil, append_assoc, length-append}
+use Rattle.std.proofs.Common.{◌≡◌, ℕ, ◌+◌, ◌<◌, ◌≤◌, false, true, List, [], ◌∷◌, ◌++◌, length, take, Some, Result, Ok, Err, refl, ap, sym, subst, ◌∙◌, arith, append-nil, append_assoc, length-append}
 use Rattle.tap_scenario.specs.Scenario.{ScenarioValue}
 use Rattle.tap_log.specs.declared.record.Record.{Record}
 use Rattle.tap_log.specs.declared.record.Record.TheVariants.{Arrived, Spent as SpentRecord}
@@ -10,7 +10,7 @@ use Rattle.tap_log.proofs.MoreRecords.{packet_count-append, sent_count-append}
 use Rattle.tap_history.specs.Moments.{has_number, outstanding}
 use Rattle.tap_carry.specs.declared.net.Packet.{Packet}
 use Rattle.tap_carry.specs.Net.{most_packets}
-use Rattle.tap_packets.specs.Groups.{ack_line, data_lines}
+use Rattle.tap_packets.specs.Groups.{ack_line}
 use Rattle.tap_packets.specs.Matching.{ArrivesAt, FrameArrives, NetMatches, OutboxesMatch}
 use Rattle.tap_packets.specs.MayCome.{KeepsPackets, MayCome}
 use Rattle.tap_packets.specs.Packets.{frames_sent, packet_record}
@@ -27,13 +27,13 @@ use Rattle.tap_lawful.specs.CarriedNext.{carried_next_group}
 use Rattle.tap_carrier.specs.Carrier.{CarrierValue}
 use Rattle.tap_carrier.specs.Kept.{KeepsLog}
 use Rattle.tap_carrier.specs.Sending.{HasDropped, HasPut, HasRemarked, RemarksAll, ack_of, put_record}
-use Rattle.tap_carried_world.specs.Adds.{AddsNext, HasLacked, IsLeft}
+use Rattle.tap_carried_world.specs.Adds.{AddsNext, IsLeft}
 use Rattle.tap_carried_world.specs.Comes.{ArrivesNext}
 use Rattle.tap_carried_world.specs.Taking.{CanTake, HasTaken, IsToTake, TakesFrame, records_of_taking}
 use Rattle.tap_carried_world.specs.Value.{CarriesRun}
-use Rattle.tap_carried_world.proofs.Acknowledging.{along_data, data_along, keeps_back, record_back}
-use Rattle.tap_carried_world.proofs.Adding.{StillGoes, has_added, has_spent, lacks_some}
-use Rattle.tap_carried_world.proofs.PacketArrivals.{arrived_sends_none, arrival, keeps_second, line, outstanding_same, packet, plain_after, was_sent}
+use Rattle.tap_carried_world.proofs.Acknowledging.{along_data, keeps_back, record_back}
+use Rattle.tap_carried_world.proofs.Adding.{has_added, has_spent, lacks_some}
+use Rattle.tap_carried_world.proofs.PacketArrivals.{arrived_sends_none, keeps_second, line, outstanding_same, packet, plain_after, was_sent}
 use Rattle.tap_carried_world.proofs.Chosen.{none_stands}
 use Rattle.tap_carried_world.proofs.Fronts.{each_front, each_rest}
 use Rattle.tap_carried_world.proofs.NodeRecords.{as_many_packets, packets_at_arrival, packets_counted, taken_sends}

@@ -1,10 +1,10 @@
 -- An outstanding frame is taken out of the packet that has arrived.
-use Rattle.std.proofs.Common.{◌≡◌, inl, inr, ℕ, suc, ◌+◌, ◌<◌, ◌≤◌, Bool, false, true, List, [], ◌∷◌, ◌++◌, length, map, take, All, None, Some, Result, Ok, Err, refl, ap, sym, subst, ◌∙◌, arith, append-nil, append_assoc, length-append}
+use Rattle.std.proofs.Common.{◌≡◌, ℕ, ◌+◌, ◌≤◌, false, true, List, [], ◌∷◌, ◌++◌, length, map, All, Some, ap, sym, subst, ◌∙◌, arith, append_assoc}
 use Rattle.std.specs.Prelude.{nat_le}
 use Rattle.tap_name.specs.Settings.{SettingsValue}
 use Rattle.tap_scenario.specs.Scenario.{ScenarioValue}
 use Rattle.tap_log.specs.declared.record.Record.{Record}
-use Rattle.tap_log.specs.declared.record.Record.TheVariants.{Arrived, Spent as SpentRecord, Taken}
+use Rattle.tap_log.specs.declared.record.Record.TheVariants.{Arrived, Taken}
 use Rattle.tap_log.specs.Counts.{packet_count, sent_count}
 use Rattle.tap_log.specs.Log.{EachFrom, EachRecord}
 use Rattle.tap_log.specs.Reduced.{reduced}

@@ -1,14 +1,13 @@
 -- A tick adds its group, or not all of it.
-use Rattle.std.proofs.Common.{◌≡◌, ℕ, ◌+◌, ◌≤◌, List, [], ◌∷◌, ◌++◌, length, take, Some, Result, Ok, Err, refl, ap, sym, subst, ◌∙◌, arith, append-nil}
+use Rattle.std.proofs.Common.{◌≡◌, ◌+◌, ◌≤◌, List, length, Result, Ok, Err, sym, subst, ◌∙◌, arith}
 use Rattle.tap_scenario.specs.Scenario.{ScenarioValue}
 use Rattle.tap_log.specs.declared.record.Record.{Record}
-use Rattle.tap_log.specs.declared.record.Record.TheVariants.{Ticked}
 use Rattle.tap_log.specs.Counts.{packet_count, sent_count}
 use Rattle.tap_log.specs.Kinds.{sent_number}
 use Rattle.tap_log.proofs.MoreRecords.{sent_count-append}
 use Rattle.tap_history.specs.Moments.{awaiting}
 use Rattle.tap_carry.specs.Net.{most_packets}
-use Rattle.tap_packets.specs.Groups.{data_lines, data_packets, tick_group}
+use Rattle.tap_packets.specs.Groups.{data_lines, tick_group}
 use Rattle.tap_packets.specs.MayCome.{KeepsPackets}
 use Rattle.tap_runs.specs.Beginning.{Beginning}
 use Rattle.tap_packets.proofs.OneRecord.{awaiting-most}
@@ -21,7 +20,7 @@ use Rattle.tap_carrier.specs.Sending.{RemarksAll}
 use Rattle.tap_carried_world.specs.Adds.{AddsNext}
 use Rattle.tap_carried_world.specs.Comes.{TicksNext}
 use Rattle.tap_carried_world.specs.Value.{CarriesRun}
-use Rattle.tap_carried_world.proofs.Adding.{StillGoes, has_added, lacks_front}
+use Rattle.tap_carried_world.proofs.Adding.{has_added, lacks_front}
 use Rattle.tap_carried_world.proofs.NextGroups.{tick_next}
 use Rattle.tap_carried_world.proofs.NodeRecords.{packets_send_none}
 use Rattle.tap_carried_world.proofs.RunLogs.{Laws, few_frames, few_packets, packets_kept}

@@ -1,5 +1,5 @@
 -- A world of a carried run: its log of plain records is the reduced one, and it may go on.
-use Rattle.std.proofs.Common.{◌≡◌, ◌≢◌, inl, ℕ, ◌+◌, ◌<◌, ◌≤◌, Bool, true, false, List, [], ◌∷◌, ◌++◌, length, Option, None, Some, Result, Ok, Err, refl, ap, sym, subst, ◌∙◌, arith}
+use Rattle.std.proofs.Common.{◌≡◌, ◌≢◌, inl, ℕ, ◌+◌, ◌<◌, ◌≤◌, Bool, true, false, List, [], ◌∷◌, ◌++◌, Option, None, Some, Result, Ok, Err, refl, ap, sym, subst, ◌∙◌, arith}
 use Rattle.std.specs.Prelude.{if◌then◌else◌, nat_le, slice_get}
 use Rattle.std.specs.List.{filter_map}
 use Rattle.std.proofs.lemmas.Bool.{false≢true, leb-false, leb-true}
@@ -24,7 +24,7 @@ use Rattle.tap_history.proofs.Parts.{is_ended-append}
 use Rattle.tap_runs.specs.Course.{is_choice}
 use Rattle.tap_runs.specs.Groups.{step_group, taken_group}
 use Rattle.tap_ledger.specs.Woven.{RemarksWithin}
-use Rattle.tap_carried.specs.ReducedLogs.{AgreesWithReduced, starts_or_observes}
+use Rattle.tap_carried.specs.ReducedLogs.{starts_or_observes}
 use Rattle.tap_engine.specs.Kinds.{last_index, observes}
 use Rattle.tap_engine.specs.Outcome.{IsNextIndex, MayGoOn, MayNote, WorldAnswersAs, adds, deliver_outcome, is_within, spends, step_outcome, takes_number, unless_refused, world_stays}
 use Rattle.tap_engine.specs.World.{WorldValue, whole_log}
@@ -36,7 +36,7 @@ use Rattle.tap_lawful.specs.Next.{begun_count, next_step}
 use Rattle.tap_lawful.specs.PlayedLaws.{index_of}
 use Rattle.tap_carried_world.specs.Value.{CarriesOn}
 use Rattle.tap_carried_world.proofs.Indices.{last_is_count, unfinished}
-use Rattle.tap_carried_world.proofs.RunLogs.{Laws, agrees, next_of_scenario, plain_goes_on, plain_indices}
+use Rattle.tap_carried_world.proofs.RunLogs.{Laws, agrees, plain_goes_on, plain_indices}
 
 -- ---- steps that start or observe something
 

@@ -1,5 +1,4 @@
 ghost use Rattle.std.specs.Prelude.{◌≡◌, false};
-ghost use Rattle.tap_engine.specs.World.{whole_log};
 ghost use Rattle.tap_engine.specs.Outcome.{MayGoOn};
 ghost use Rattle.tap_carried_world.specs.Adds.{AddsNext};
 ghost use Rattle.tap_carried_world.specs.Comes.{ArrivesNext};

@@ -1,4 +1,4 @@
-use Rattle.std.proofs.Common.{◌≡◌, Err, Result, ap, sym, subst, ◌∙◌}
+use Rattle.std.proofs.Common.{◌≡◌, Err, ap, sym, subst, ◌∙◌}
 use Rattle.std.proofs.lemmas.Result.{err_from_is_err_and}
 use Rattle.tap_engine.specs.declared.stop.Stop.TheVariants.{NoMemory}
 use Rattle.tap_carry.specs.declared.net.Packet.{Packet}
@@ -11,7 +11,7 @@ use Rattle.tap_carried_world.proofs.Laws.{laws}
 use Rattle.tap_carried_world.proofs.PacketArrivals.{ack_adds, ack_counts, again_adds, again_room, arrive_stops, arrived_goes, first_is, is_numbered, new_lacks, still_goes}
 use Rattle.tap_carried_world.proofs.PacketPlaces.{in_net, place_in_net}
 use Rattle.tap_carried_world.proofs.Seen.{adds_seen, carries_both, plain_of, seen, world_is}
-use Rattle.tap_carried_world.proofs.TakenArrivals.{can_take, goes_again, is_to_take, last_adds, last_room, take_stops}
+use Rattle.tap_carried_world.proofs.TakenArrivals.{can_take, is_to_take, last_adds, last_room, take_stops}
 use Rattle.tap_carried_world.proofs.Worlds.{may_go_on}
 use Rattle.tap_carried_world.proofs.carried.CarriedWorld.arrive.Goals as goal
 

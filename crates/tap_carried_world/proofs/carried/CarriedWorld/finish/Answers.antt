@@ -1,4 +1,4 @@
-use Rattle.std.proofs.Common.{◌≡◌, None, Ok, ap, sym, subst, ◌∙◌}
+use Rattle.std.proofs.Common.{◌≡◌, None, ap, sym, subst, ◌∙◌}
 use Rattle.tap_engine.specs.Outcome.{WorldAnswersAs, finish_outcome}
 use Rattle.tap_engine.proofs.WholeLogs.{finish_added}
 use Rattle.tap_engine.specs.World.{whole_log}

@@ -1,4 +1,3 @@
-use Rattle.std.proofs.Common.{ap, sym, subst, ◌∙◌}
 use Rattle.tap_carrier.specs.Kept.{KeepsLog}
 use Rattle.tap_engine.specs.World.{whole_log}
 use Rattle.tap_carried_world.proofs.Beginning.{carried_by}

@@ -1,4 +1,4 @@
-use Rattle.std.proofs.Common.{◌≡◌, false, length, Err, Ok, ap, sym, subst, ◌∙◌}
+use Rattle.std.proofs.Common.{◌≡◌, false, length, Err, ap, sym, subst, ◌∙◌}
 use Rattle.tap_scenario.specs.Step.{IsStep}
 use Rattle.tap_runs.specs.Beginning.{Beginning}
 use Rattle.tap_engine.specs.Outcome.{WorldAnswersAs, step_outcome}
