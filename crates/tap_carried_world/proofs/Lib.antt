@@ -20,7 +20,7 @@ mod PacketArrivals
 mod TakenArrivals
 mod Beginning
 mod Stranded
-mod Laws
+mod CarriedRunLaws
 mod Seen
 mod ChosenCalls
 mod RootSets

@@ -7,7 +7,7 @@ use Rattle.tap_carrier.specs.Sending.{HasDropped}
 use Rattle.tap_carried_world.specs.Adds.{AddsNext, HasAdded}
 use Rattle.tap_carried_world.specs.Comes.{ArrivesNext}
 use Rattle.tap_carried_world.specs.Taking.{CanTake, HasTaken, IsToTake, TakesFrame}
-use Rattle.tap_carried_world.proofs.Laws.{laws}
+use Rattle.tap_carried_world.proofs.CarriedRunLaws.{laws}
 use Rattle.tap_carried_world.proofs.PacketArrivals.{ack_adds, ack_counts, again_adds, again_room, arrive_stops, arrived_goes, first_is, is_numbered, new_lacks, still_goes}
 use Rattle.tap_carried_world.proofs.PacketPlaces.{in_net, place_in_net}
 use Rattle.tap_carried_world.proofs.Seen.{adds_seen, carries_both, plain_of, seen, world_is}

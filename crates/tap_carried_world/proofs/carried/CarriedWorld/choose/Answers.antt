@@ -4,9 +4,9 @@ use Rattle.tap_engine.specs.World.{whole_log}
 use Rattle.tap_carried_world.specs.Adds.{HasAdded}
 use Rattle.tap_carried_world.specs.Comes.{BeginsNext}
 use Rattle.tap_carried_world.proofs.Beginning.{carried_by}
+use Rattle.tap_carried_world.proofs.CarriedRunLaws.{laws}
 use Rattle.tap_carried_world.proofs.Chosen.{may_note}
 use Rattle.tap_carried_world.proofs.ChosenCalls.{alone_group, carried_is, choice_goes, log_is, lose_call, lose_place, noted_choice, plain_choice, repeat_call, repeat_place, repeat_room}
-use Rattle.tap_carried_world.proofs.Laws.{laws}
 use Rattle.tap_carried_world.proofs.Seen.{adds_seen, carries_both, plain_of, seen, world_is}
 use Rattle.tap_carried_world.proofs.Worlds.{may_begin, may_go_on}
 use Rattle.tap_carried_world.proofs.carried.CarriedWorld.choose.Goals as goal

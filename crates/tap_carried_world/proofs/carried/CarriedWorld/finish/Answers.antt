@@ -6,7 +6,7 @@ use Rattle.tap_lawful.specs.CarriedNext.{carried_next_group}
 use Rattle.tap_lawful.specs.CarriedRuns.{IsCarriedFinished}
 use Rattle.tap_lawful.specs.Next.{begun_count}
 use Rattle.tap_carried_world.proofs.Beginning.{all_begun, finish_answers, finished_log}
-use Rattle.tap_carried_world.proofs.Laws.{laws}
+use Rattle.tap_carried_world.proofs.CarriedRunLaws.{laws}
 use Rattle.tap_carried_world.proofs.Seen.{carries_both, plain_of, seen, world_is}
 use Rattle.tap_carried_world.proofs.Worlds.{may_go_on}
 use Rattle.tap_carried_world.proofs.carried.CarriedWorld.finish.Goals as goal

@@ -1,5 +1,5 @@
 use Rattle.tap_carried_world.proofs.Beginning.{begins_run, begun_may}
-use Rattle.tap_carried_world.proofs.Laws.{laws}
+use Rattle.tap_carried_world.proofs.CarriedRunLaws.{laws}
 use Rattle.tap_carried_world.proofs.carried.CarriedWorld.new.Goals as goal
 
 pub new-requires-2-clause-goes_on : goal.new-requires-2-clause-goes_on

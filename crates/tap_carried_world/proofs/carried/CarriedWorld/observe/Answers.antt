@@ -6,7 +6,7 @@ use Rattle.tap_engine.specs.declared.stop.Stop.TheVariants.{Ended, NoMemory, Spe
 use Rattle.tap_engine.proofs.AddedGroups.{at_none}
 use Rattle.tap_carried_world.specs.Comes.{BeginsNext}
 use Rattle.tap_carried_world.proofs.ActingSteps.{observed_call, refused_call, step_stops}
-use Rattle.tap_carried_world.proofs.Laws.{laws}
+use Rattle.tap_carried_world.proofs.CarriedRunLaws.{laws}
 use Rattle.tap_carried_world.proofs.Seen.{adds_seen, carries_both, plain_of, seen}
 use Rattle.tap_carried_world.proofs.RunLogs.{next_of_scenario}
 use Rattle.tap_carried_world.proofs.Worlds.{may_begin, may_go_on, observation_acts, observes_as_step, refused_may_note}

@@ -2,7 +2,7 @@ use Rattle.std.proofs.Common.{sym, subst}
 use Rattle.tap_scenario.specs.declared.step.Step.TheVariants.{RootSet}
 use Rattle.tap_root_sets.specs.AskedRoots.{AnswersRootSet, MayAsk}
 use Rattle.tap_carried_world.specs.Comes.{BeginsNext}
-use Rattle.tap_carried_world.proofs.Laws.{laws}
+use Rattle.tap_carried_world.proofs.CarriedRunLaws.{laws}
 use Rattle.tap_carried_world.proofs.RootSets.{is_salted_so, may_ask, root_set_adds}
 use Rattle.tap_carried_world.proofs.Seen.{adds_seen, carries_both, plain_of, seen}
 use Rattle.tap_carried_world.proofs.Worlds.{may_begin, may_go_on}

@@ -8,7 +8,7 @@ use Rattle.tap_engine.specs.World.{whole_log}
 use Rattle.tap_carrier.specs.Sending.{IsToCarry, RemarksAll, packets_since}
 use Rattle.tap_carried_world.specs.Comes.{BeginsNext}
 use Rattle.tap_carried_world.proofs.ActingSteps.{refused_call, started_call, started_carries, started_goes, step_stops}
-use Rattle.tap_carried_world.proofs.Laws.{laws}
+use Rattle.tap_carried_world.proofs.CarriedRunLaws.{laws}
 use Rattle.tap_carried_world.proofs.Seen.{adds_seen, carries_both, plain_of, seen}
 use Rattle.tap_carried_world.proofs.RunLogs.{next_of_scenario}
 use Rattle.tap_carried_world.proofs.Worlds.{may_begin, may_go_on, refused_may_note, start_acts, starts_as_step}

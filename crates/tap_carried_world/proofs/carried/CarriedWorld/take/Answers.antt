@@ -7,7 +7,7 @@ use Rattle.tap_carrier.specs.Kept.{KeepsLog}
 use Rattle.tap_engine.specs.World.{whole_log}
 use Rattle.tap_carrier.specs.Sending.{IsToCarry, RemarksAll, packets_since}
 use Rattle.tap_carried_world.specs.Taking.{CanTake, IsToTake, TakesFrame}
-use Rattle.tap_carried_world.proofs.Laws.{laws}
+use Rattle.tap_carried_world.proofs.CarriedRunLaws.{laws}
 use Rattle.tap_carried_world.proofs.Places.{has_place, place_found}
 use Rattle.tap_carried_world.proofs.Seen.{plain_of, seen, world_is}
 use Rattle.tap_carried_world.proofs.TakenAnswers.{carried_takes, deliver_stops, goes_after, to_carry_on}

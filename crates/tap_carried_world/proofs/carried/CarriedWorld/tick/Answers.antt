@@ -1,5 +1,5 @@
 use Rattle.tap_carried_world.specs.Comes.{TicksNext}
-use Rattle.tap_carried_world.proofs.Laws.{laws}
+use Rattle.tap_carried_world.proofs.CarriedRunLaws.{laws}
 use Rattle.tap_carried_world.proofs.Seen.{adds_seen, carries_both, plain_of, seen}
 use Rattle.tap_carried_world.proofs.TickGroups.{tick_done, tick_keeps, tick_packets, tick_room}
 use Rattle.tap_carried_world.proofs.Worlds.{may_go_on}
