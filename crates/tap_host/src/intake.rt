@@ -1,4 +1,4 @@
-ghost use Rattle.std.specs.Prelude.{◌≡◌, ◌≤◌, ◌&&◌, ◌||◌, [], List, ℕ, true, false, not, IfOk, OnOk};
+ghost use Rattle.std.specs.Prelude.{◌≡◌, ◌≤◌, ◌&&◌, ◌||◌, List, ℕ, true, false, not, IfOk, OnOk};
 ghost use Rattle.tap_carry.specs.Names.{is_same};
 ghost use Rattle.tap_host.specs.Intake.{has_taken};
 

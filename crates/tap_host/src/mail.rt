@@ -1,4 +1,4 @@
-ghost use Rattle.std.specs.Prelude.{◌≡◌, ◌+◌, ◌<◌, ◌≤◌, ◌++◌, [], length, nat_le, None, OnOk, Some};
+ghost use Rattle.std.specs.Prelude.{◌≡◌, ◌+◌, ◌<◌, ◌≤◌, ◌++◌, length, nat_le, None, OnOk, Some};
 ghost use Rattle.tap_carry.specs.Outbox.{most_frames};
 ghost use Rattle.tap_host_line.specs.Texts.{text_of_packet};
 ghost use Rattle.tap_host.specs.Mail.{AreUpdated, empty_mail, letter_in, mail_acked, mail_seen, mail_sent, posts, text_of_letters};

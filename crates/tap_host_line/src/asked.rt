@@ -1,8 +1,8 @@
-ghost use Rattle.std.specs.Prelude.{◌≡◌, ◌≢◌, ◌+◌, map, IfOk, IfSome, Err, ok_or, option_map};
+ghost use Rattle.std.specs.Prelude.{◌≡◌, ◌≢◌, map, IfOk, IfSome, Err, ok_or};
 ghost use Rattle.std.specs.String.{string_bytes};
 ghost use Rattle.clap.specs.Words.{first_of, found_of, rows_of};
-ghost use Rattle.tap_name.specs.Name.{IsName, name_of_word};
-ghost use Rattle.tap_host_line.specs.Words.{asked_by, asked_of_rows, byte_in, name_in, settings_in, settings_of};
+ghost use Rattle.tap_name.specs.Name.{IsName};
+ghost use Rattle.tap_host_line.specs.Words.{asked_by, asked_of_rows, byte_in, name_in};
 
 use crate::command::matches;
 use clap::ArgMatches;

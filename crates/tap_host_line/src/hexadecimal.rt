@@ -1,4 +1,4 @@
-ghost use Rattle.std.specs.Prelude.{◌≡◌, ◌+◌, ◌<◌, ◌≤◌, ◌*◌, All, length, map, Ok, IfOk, IfSome, option_map};
+ghost use Rattle.std.specs.Prelude.{◌≡◌, ◌<◌, ◌≤◌, ◌*◌, All, length, map, Ok, IfOk, IfSome, option_map};
 ghost use Rattle.std.specs.Bool.{OnTrue};
 ghost use Rattle.hex.specs.Hex.{decode_of};
 ghost use Rattle.tap_name.specs.Digits.{digit_of_text};
