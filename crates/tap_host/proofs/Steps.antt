@@ -27,7 +27,7 @@ use Rattle.tap_host_line.specs.Texts.{text_of_ack, text_of_begun, text_of_news, 
 use Rattle.tap_host.specs.declared.host.Going.{Going}
 use Rattle.tap_host.specs.declared.host.Going.TheVariants.{On}
 use Rattle.std.proofs.lemmas.Result.{IfOk-weaker}
-use Rattle.tap_host.specs.Host.{HostSeen, Stepped, TakesStep, after_answer, after_step, at_members, at_number, at_start, full, goes_on, host_seen, host_settings, refused, turned, why_of, with_node, with_taken}
+use Rattle.tap_host.specs.Host.{HostSeen, Stepped, TakesStep, after_node_answer, after_step, at_members, at_number, at_start, full, host_goes_on, host_seen, host_settings, refused, turned, why_of, with_frame_taken, with_node}
 use Rattle.tap_host.specs.Actor.{ActorValue, below_after, has_start, is_new, start_of}
 use Rattle.tap_host.specs.Intake.{IntakeValue, has_taken}
 use Rattle.tap_host.specs.Mail.{MailSeen, MailValue, mail_seen, mail_sent, posts, posts_by}
@@ -126,20 +126,20 @@ pub after_turn : (before host : HostSeen) (number : ℕ) (front : List ℕ) (out
     → outcome.answer ≡ Ok turn → outcome.node ≡ node → nat_le (host.mail.sent + length turn.sent) most_frames ≡ true
     → after_step before host number front outcome ≡ turned (with_node host node turn) turn front
 after_turn before host number front outcome node turn answer is room =
-    ap (λ a. after_answer before host number front outcome.node a) answer
-    ∙ ap (λ n. after_answer before host number front n (Ok turn)) is
+    ap (λ a. after_node_answer before host number front outcome.node a) answer
+    ∙ ap (λ n. after_node_answer before host number front n (Ok turn)) is
     ∙ ap (λ b. cond b (turned (with_node host node turn) turn front) (full before number)) room
 
 pub after_full : (before host : HostSeen) (number : ℕ) (front : List ℕ) (outcome : Outcome) (turn : Turn)
     → outcome.answer ≡ Ok turn → nat_le (host.mail.sent + length turn.sent) most_frames ≡ false
     → after_step before host number front outcome ≡ full before number
 after_full before host number front outcome turn answer room =
-    ap (λ a. after_answer before host number front outcome.node a) answer
+    ap (λ a. after_node_answer before host number front outcome.node a) answer
     ∙ ap (λ b. cond b (turned (with_node host outcome.node turn) turn front) (full before number)) room
 
 pub after_fault : (before host : HostSeen) (number : ℕ) (front : List ℕ) (outcome : Outcome) (fault : NodeFault)
     → outcome.answer ≡ Err fault → after_step before host number front outcome ≡ refused before number (why_of fault)
-after_fault before host number front outcome fault answer = ap (λ a. after_answer before host number front outcome.node a) answer
+after_fault before host number front outcome fault answer = ap (λ a. after_node_answer before host number front outcome.node a) answer
 
 -- a turn, or a fault that isn't want of memory, is the answer of the outcome
 pub turn_answer : (outcome : Outcome) (before after : NodeValue) (given : Result Turn NodeFault) (turn : Turn)
@@ -210,7 +210,7 @@ module _ {E : Type 0} (answer : Result Going E) (step : Stepped) (now : HostSeen
       (turned_after host' now turn before front between after going texts
       (subst (λ h. TakesStep (turned h turn between) now [] after going) same takes))) given
 
-pub goes_as : (step : Stepped) (now : HostSeen) (before after : List ℕ) (host : HostSeen) (text : List ℕ) → step ≡ goes_on host text → now ≡ host
+pub goes_as : (step : Stepped) (now : HostSeen) (before after : List ℕ) (host : HostSeen) (text : List ℕ) → step ≡ host_goes_on host text → now ≡ host
     → after ≡ before ++ text → TakesStep step now before after On
 goes_as step now before after host text is same texts =
     subst (λ s. TakesStep s now before after On) (sym is) (record { text = texts; going = refl; host = λ _. same })
@@ -224,13 +224,13 @@ module _ (a : ActorValue) (m : MailValue) (i : IntakeValue) (begun : Bool) where
   -- a packet
   module _ (number : ℕ) (from : List ℕ) (seq : ℕ) (frame : List ℕ) where
     abbrev stepped : Stepped
-    stepped = after_step seen_host (with_taken seen_host from seq) number (text_of_ack from seq) (take_outcome a.node frame)
+    stepped = after_step seen_host (with_frame_taken seen_host from seq) number (text_of_ack from seq) (take_outcome a.node frame)
 
     abbrev unless_taken : Bool → Bool → Stepped
     unless_taken taken room =
-        cond taken (goes_on seen_host (text_of_ack from seq)) (cond (not room) (full seen_host number) stepped)
+        cond taken (host_goes_on seen_host (text_of_ack from seq)) (cond (not room) (full seen_host number) stepped)
 
-    pub number_again : has_taken i from seq ≡ true → at_number seen_host number from seq frame ≡ goes_on seen_host (text_of_ack from seq)
+    pub number_again : has_taken i from seq ≡ true → at_number seen_host number from seq frame ≡ host_goes_on seen_host (text_of_ack from seq)
     number_again taken = ap (λ b. unless_taken b (has_room_left a.node)) taken
 
     pub number_full : has_taken i from seq ≡ false → has_room_left a.node ≡ false → at_number seen_host number from seq frame ≡ full seen_host number
@@ -242,7 +242,7 @@ module _ (a : ActorValue) (m : MailValue) (i : IntakeValue) (begun : Bool) where
   -- members
   module _ (number : ℕ) (names : List (List ℕ)) where
     abbrev joined : Stepped
-    joined = goes_on (record seen_host {
+    joined = host_goes_on (record seen_host {
       actor = record { node = running (member_at_rest (settings_of a.node.state) names (name_of a.node.state)); casts_below = 0 };
       begun = true;
     }) text_of_begun

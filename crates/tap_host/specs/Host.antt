@@ -27,7 +27,7 @@ use Rattle.tap_host_line.specs.declared.line.Line.TheVariants.{Members, Packet, 
 use Rattle.tap_host_line.specs.declared.line.Start.{Start as StartLine}
 use Rattle.tap_host_line.specs.declared.why.Why.{Why}
 use Rattle.tap_host_line.specs.declared.why.Why.TheVariants as why
-use Rattle.tap_host_line.specs.Line.{line_of_text}
+use Rattle.tap_host_line.specs.Line.{node_line_of_text}
 use Rattle.tap_host_line.specs.Texts.{text_of_ack, text_of_begun, text_of_count, text_of_news, text_of_refused, text_of_status}
 use Rattle.tap_host.specs.declared.host.Going.{Going}
 use Rattle.tap_host.specs.declared.host.Going.TheVariants.{On, Full}
@@ -52,11 +52,11 @@ pub record HostSeen : Type 0 where
 abbrev pub host_seen : HostValue → HostSeen
 host_seen host = record { actor = host.actor; mail = mail_seen host.mail; taken = has_taken host.intake; begun = host.begun }
 
-abbrev pub node_of : HostSeen → NodeValue
-node_of host = host.actor.node
+abbrev pub host_node : HostSeen → NodeValue
+host_node host = host.actor.node
 
 abbrev pub host_settings : HostSeen → SettingsValue
-host_settings host = settings_of (node_of host).state
+host_settings host = settings_of (host_node host).state
 
 -- a node that has sent and taken nothing
 abbrev pub new_host : NodeValue → HostSeen
@@ -73,12 +73,12 @@ pub record Stepped : Type 0 where
   pub text : List ℕ
   pub going : Going
 
-abbrev pub goes_on : HostSeen → List ℕ → Stepped
-goes_on host text = record { host = host; text = text; going = On }
+abbrev pub host_goes_on : HostSeen → List ℕ → Stepped
+host_goes_on host text = record { host = host; text = text; going = On }
 
 -- the line of this number isn't taken, and changes nothing
 abbrev pub refused : HostSeen → ℕ → Why → Stepped
-refused host number because = goes_on host (text_of_refused number because)
+refused host number because = host_goes_on host (text_of_refused number because)
 
 -- there is no room for a step
 abbrev pub full : HostSeen → ℕ → Stepped
@@ -90,7 +90,7 @@ full host number = record { host = host; text = text_of_refused number why.Room;
 abbrev pub turned : HostSeen → Turn → List ℕ → Stepped
 turned host turn front =
     let posted = posts (host_settings host) (host.mail, front ++ text_of_news turn.news) turn.sent in
-    goes_on (record host { mail = posted.0; begun = true }) posted.1
+    host_goes_on (record host { mail = posted.0; begun = true }) posted.1
 
 -- the node has taken a step with this news, and is this now
 abbrev pub with_node : HostSeen → NodeValue → Turn → HostSeen
@@ -107,13 +107,13 @@ why_of fault.Ended = why.Room
 
 -- What comes of a step, of which the node gives this answer and is then this: a refusal leaves all as it was. The frames that are sent need
 -- numbers.
-abbrev pub after_answer : HostSeen → HostSeen → ℕ → List ℕ → NodeValue → Result Turn NodeFault → Stepped
-after_answer before host number front node (Ok turn) =
+abbrev pub after_node_answer : HostSeen → HostSeen → ℕ → List ℕ → NodeValue → Result Turn NodeFault → Stepped
+after_node_answer before host number front node (Ok turn) =
     if nat_le (host.mail.sent + length turn.sent) most_frames then turned (with_node host node turn) turn front else full before number
-after_answer before host number front node (Err cause) = refused before number (why_of cause)
+after_node_answer before host number front node (Err cause) = refused before number (why_of cause)
 
 abbrev pub after_step : HostSeen → HostSeen → ℕ → List ℕ → Outcome → Stepped
-after_step before host number front outcome = after_answer before host number front outcome.node outcome.answer
+after_step before host number front outcome = after_node_answer before host number front outcome.node outcome.answer
 
 -- ---- lines
 
@@ -121,10 +121,10 @@ after_step before host number front outcome = after_answer before host number fr
 abbrev pub at_members : HostSeen → ℕ → List Name → Stepped
 at_members host number names =
     if host.begun then refused host number why.Late
-    else if not (has_name names (name_of (node_of host).state)) then refused host number why.Stranger
-    else goes_on (record host {
+    else if not (has_name names (name_of (host_node host).state)) then refused host number why.Stranger
+    else host_goes_on (record host {
       actor = record {
-        node = running (member_at_rest (host_settings host) names (name_of (node_of host).state));
+        node = running (member_at_rest (host_settings host) names (name_of (host_node host).state));
         casts_below = 0;
       };
       begun = true;
@@ -133,21 +133,21 @@ at_members host number names =
 -- the node begins a start
 abbrev pub at_start : HostSeen → ℕ → StartLine → Stepped
 at_start host number begun =
-    if not (has_start (node_status (node_of host)) begun) then refused host number why.Status
+    if not (has_start (node_status (host_node host)) begun) then refused host number why.Status
     else if not (is_new host.actor.casts_below begun) then refused host number why.Number
-    else if not (has_room_left (node_of host)) then full host number
-    else after_step host host number text_of_begun (start_outcome (node_of host) (start_of begun))
+    else if not (has_room_left (host_node host)) then full host number
+    else after_step host host number text_of_begun (start_outcome (host_node host) (start_of begun))
 
 -- the frame of this number is taken
-abbrev pub with_taken : HostSeen → Name → ℕ → HostSeen
-with_taken host from seq = record host { taken = λ x k. host.taken x k || is_same from seq x k }
+abbrev pub with_frame_taken : HostSeen → Name → ℕ → HostSeen
+with_frame_taken host from seq = record host { taken = λ x k. host.taken x k || is_same from seq x k }
 
 -- a packet from the sender of its frame: a frame that was taken is acknowledged again, and another one is taken
 abbrev pub at_number : HostSeen → ℕ → Name → ℕ → List ℕ → Stepped
 at_number host number from seq frame =
-    if host.taken from seq then goes_on host (text_of_ack from seq)
-    else if not (has_room_left (node_of host)) then full host number
-    else after_step host (with_taken host from seq) number (text_of_ack from seq) (take_outcome (node_of host) frame)
+    if host.taken from seq then host_goes_on host (text_of_ack from seq)
+    else if not (has_room_left (host_node host)) then full host number
+    else after_step host (with_frame_taken host from seq) number (text_of_ack from seq) (take_outcome (host_node host) frame)
 
 -- a packet by the head of its frame
 abbrev pub at_head : HostSeen → ℕ → Name → ℕ → List ℕ → Result Head HeadFault → Stepped
@@ -180,31 +180,31 @@ status_word Ended = codes "ended"
 -- the status of a node
 abbrev pub text_of_host : HostSeen → List ℕ
 text_of_host host =
-    text_of_status (status_word (node_status (node_of host)))
-    ++ text_of_count (codes "links") (link_count (table_lent (node_of host)))
-    ++ text_of_count (codes "holders") (unwrap_or (holders_lent (node_of host)) 0)
-    ++ text_of_count (codes "pairs") (pair_count (pointers_lent (node_of host)))
-    ++ text_of_count (codes "sessions") (length (node_of host).state.sessions.sessions)
-    ++ text_of_count (codes "span") (span_count (pointers_lent (node_of host)))
+    text_of_status (status_word (node_status (host_node host)))
+    ++ text_of_count (codes "links") (link_count (table_lent (host_node host)))
+    ++ text_of_count (codes "holders") (unwrap_or (holders_lent (host_node host)) 0)
+    ++ text_of_count (codes "pairs") (pair_count (pointers_lent (host_node host)))
+    ++ text_of_count (codes "sessions") (length (host_node host).state.sessions.sessions)
+    ++ text_of_count (codes "span") (span_count (pointers_lent (host_node host)))
     ++ text_of_count (codes "awaits") (length host.mail.letters)
 
 -- what a line does that is one
-abbrev pub step_of : HostSeen → ℕ → Line → Stepped
-step_of host number (Members names) = at_members host number names
-step_of host number (Packet from seq frame) = at_head host number from seq frame (head_of (host_settings host) frame)
-step_of host number (Ack from seq) = goes_on (record host { mail = mail_acked host.mail from seq }) []
-step_of host number (Start begun) = at_start host number begun
-step_of host number Tick = goes_on host (text_of_letters host.mail.letters)
-step_of host number Status = goes_on host (text_of_host host)
+abbrev pub step_of_line : HostSeen → ℕ → Line → Stepped
+step_of_line host number (Members names) = at_members host number names
+step_of_line host number (Packet from seq frame) = at_head host number from seq frame (head_of (host_settings host) frame)
+step_of_line host number (Ack from seq) = host_goes_on (record host { mail = mail_acked host.mail from seq }) []
+step_of_line host number (Start begun) = at_start host number begun
+step_of_line host number Tick = host_goes_on host (text_of_letters host.mail.letters)
+step_of_line host number Status = host_goes_on host (text_of_host host)
 
 -- and what one does, by its number, that may be none
 abbrev pub host_step : HostSeen → ℕ → Option Line → Stepped
 host_step host number None = refused host number why.Line
-host_step host number (Some line) = step_of host number line
+host_step host number (Some line) = step_of_line host number line
 
 -- the step of a text
 abbrev pub host_line : HostSeen → ℕ → List ℕ → Stepped
-host_line host number text = host_step host number (line_of_text (host_settings host) text)
+host_line host number text = host_step host number (node_line_of_text (host_settings host) text)
 
 -- ---- what a call does
 

@@ -4,7 +4,7 @@ ghost use Rattle.tap_name.specs.Name.{IsName};
 ghost use Rattle.tap_rule.specs.Node.{joiner, member_at_rest, settings_of};
 ghost use Rattle.tap_node.specs.Node.{has_room_left, node_status, running};
 ghost use Rattle.tap_node.specs.Outcome.{start_outcome, take_outcome};
-ghost use Rattle.tap_host_line.specs.Line.{IsStart};
+ghost use Rattle.tap_host_line.specs.Line.{IsNodeStart};
 ghost use Rattle.tap_host.specs.Actor.{ActsAs, below_after, below_given, has_start, is_new, is_of_join, start_of};
 
 use crate::memory::NoMemory;
@@ -114,7 +114,7 @@ impl Actor {
         requires room { IsTrue (has_room_left self.old.node) }
         requires there { has_start (node_status self.old.node) start.now ≡ true }
         requires new { is_new self.old.casts_below start.now ≡ true }
-        requires valid { IsStart (settings_of self.old.node.state) start.now }
+        requires valid { IsNodeStart (settings_of self.old.node.state) start.now }
         ensures { ActsAs (start_outcome self.old.node (start_of start.now)) self.old self.new result }
     {
         let begun = begin(&mut self.node, start);

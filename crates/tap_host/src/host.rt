@@ -4,8 +4,8 @@ ghost use Rattle.tap_rule.specs.Node.{joiner};
 ghost use Rattle.tap_carry.specs.Outbox.{most_frames};
 ghost use Rattle.tap_wire.specs.Reading.{head_of};
 ghost use Rattle.tap_node.specs.Node.{running};
-ghost use Rattle.tap_host_line.specs.Line.{AreMembers, IsLine, IsStart};
-ghost use Rattle.tap_host.specs.Host.{HostSeen, TakesStep, at_head, at_members, at_number, at_start, full, host_line, host_seen, host_settings, new_host, refused, status_word, step_of, text_of_host, turned, why_of};
+ghost use Rattle.tap_host_line.specs.Line.{AreLineMembers, IsNodeLine, IsNodeStart};
+ghost use Rattle.tap_host.specs.Host.{HostSeen, TakesStep, at_head, at_members, at_number, at_start, full, host_line, host_seen, host_settings, new_host, refused, status_word, step_of_line, text_of_host, turned, why_of};
 
 use crate::actor::Actor;
 use crate::intake::Intake;
@@ -85,8 +85,8 @@ impl Host {
 
     // Takes a line.
     fn take_line(&mut self, out: &mut Vec<u8>, number: u64, line: &Line) -> Result<Going, NoMemory>
-        requires { IsLine (host_settings (host_seen self.old)) line.now }
-        ensures { IfOk result (TakesStep (step_of (host_seen self.old) number line.now)
+        requires { IsNodeLine (host_settings (host_seen self.old)) line.now }
+        ensures { IfOk result (TakesStep (step_of_line (host_seen self.old) number line.now)
             (host_seen self.new) out.old.items out.new.items) }
     {
         match line {
@@ -114,7 +114,7 @@ impl Host {
         number: u64,
         names: &List<Name>,
     ) -> Result<Going, NoMemory>
-        requires { AreMembers (host_settings (host_seen self.old)) names.now }
+        requires { AreLineMembers (host_settings (host_seen self.old)) names.now }
         ensures { IfOk result (TakesStep (at_members (host_seen self.old) number names.now)
             (host_seen self.new) out.old.items out.new.items) }
     {
@@ -133,7 +133,7 @@ impl Host {
 
     // The node begins a start, if its status has it.
     fn start(&mut self, out: &mut Vec<u8>, number: u64, start: &Start) -> Result<Going, NoMemory>
-        requires { IsStart (host_settings (host_seen self.old)) start.now }
+        requires { IsNodeStart (host_settings (host_seen self.old)) start.now }
         ensures { IfOk result (TakesStep (at_start (host_seen self.old) number start.now)
             (host_seen self.new) out.old.items out.new.items) }
     {

@@ -1,6 +1,6 @@
 ghost use Rattle.std.specs.Prelude.{◌≡◌, [], drop, map, take, None, ◌+◌};
 ghost use Rattle.std.specs.String.{string_bytes};
-ghost use Rattle.tap_host_line.specs.Words.{asked_by};
+ghost use Rattle.tap_host_line.specs.Words.{node_asked_by};
 ghost use Rattle.tap_host.specs.Host.{host_line, host_seen};
 ghost use Rattle.tap_host.specs.Run.{HasRunAsked, HasServed};
 ghost use Rattle.tap_host.specs.Taking.{IsFirstLine, TakesLine};
@@ -24,7 +24,7 @@ pub fn run_node<S: Source, K: Sink>(
     source: &mut S,
     sink: &mut K,
 ) -> HostStatus
-    ensures { HasRunAsked (asked_by (map string_bytes words.now.items)) (S.state source.old) (S.state source.new)
+    ensures { HasRunAsked (node_asked_by (map string_bytes words.now.items)) (S.state source.old) (S.state source.new)
         (K.state sink.old) (K.state sink.new) result }
 {
     let asked = match read_words(alloc, words.as_slice()) {

@@ -2,7 +2,7 @@ ghost use Rattle.std.specs.Prelude.{◌≡◌, true, IsTrue};
 ghost use Rattle.tap_rule.specs.Node.{settings_of};
 ghost use Rattle.tap_node.specs.Node.{has_room_left, node_status};
 ghost use Rattle.tap_node.specs.Outcome.{AnswersAs, start_outcome};
-ghost use Rattle.tap_host_line.specs.Line.{IsStart};
+ghost use Rattle.tap_host_line.specs.Line.{IsNodeStart};
 ghost use Rattle.tap_host.specs.Actor.{IsUnmet, has_start, start_of};
 
 use tap_host_line::Start;
@@ -12,7 +12,7 @@ use tap_node::{Node, NodeFault, Turn};
 pub(crate) fn begin(node: &mut Node, start: &Start) -> Result<Turn, NodeFault>
     requires room { IsTrue (has_room_left node.old) }
     requires there { has_start (node_status node.old) start.now ≡ true }
-    requires valid { IsStart (settings_of node.old.state) start.now }
+    requires valid { IsNodeStart (settings_of node.old.state) start.now }
     requires unmet { IsUnmet node.old.state.casts start.now }
     ensures { AnswersAs (start_outcome node.old (start_of start.now)) node.old result node.new }
 {

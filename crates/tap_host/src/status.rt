@@ -1,5 +1,5 @@
 ghost use Rattle.std.specs.Prelude.{◌≡◌};
-ghost use Rattle.tap_host.specs.Status.{exit_code};
+ghost use Rattle.tap_host.specs.Status.{host_exit_code};
 
 /// How the run of a node ended.
 ///
@@ -29,7 +29,7 @@ impl HostStatus {
     ///
     /// Rule: docs/NETWORK.md, "Exit statuses".
     pub fn exit_code(&self) -> u8
-        ensures { result ≡ exit_code self.now }
+        ensures { result ≡ host_exit_code self.now }
     {
         match self {
             HostStatus::Done => 0,

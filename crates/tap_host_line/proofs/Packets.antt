@@ -16,7 +16,7 @@ use Rattle.tap_name.specs.Settings.{SettingsValue}
 use Rattle.memchr.specs.Find.{IsFirstByte, Nowhere, Passes, is_byte}
 use Rattle.tap_scenario.specs.Words.{HasNoSpace, words}
 use Rattle.tap_host_line.specs.declared.line.Line.TheVariants.{Packet}
-use Rattle.tap_host_line.specs.Line.{frame_of_word, packet_of_words, seq_of_word}
+use Rattle.tap_host_line.specs.Line.{frame_of_word, packet_line_of_words, seq_of_word}
 
 digit_no_space : (byte : ℕ) → is_hex_digit byte ≡ true → (byte == 32) ≡ false
 digit_no_space byte digit = grind (arith, nat_tests)
@@ -56,25 +56,25 @@ one_word text bytes is =
 -- a packet is read
 pub packet_read : (p : SettingsValue) (from seq text name : List ℕ) (number : ℕ) (frame : List ℕ) → Some name ≡ name_of_word p from
     → Some number ≡ seq_of_word seq → Some frame ≡ frame_of_word text
-    → packet_of_words p (from ∷ seq ∷ words text) ≡ Some (Packet name number frame)
+    → packet_line_of_words p (from ∷ seq ∷ words text) ≡ Some (Packet name number frame)
 packet_read p from seq text name number frame named numbered framed =
-    ap (λ (others : List (List ℕ)). packet_of_words p (from ∷ seq ∷ others)) (one_word text frame framed)
+    ap (λ (others : List (List ℕ)). packet_line_of_words p (from ∷ seq ∷ others)) (one_word text frame framed)
     ∙ rw (← named, ← numbered, ← framed) refl
 
 module _ (p : SettingsValue) (from seq text : List ℕ) (none : None ≡ frame_of_word text) where
   unframed : (name : Option (List ℕ)) (number : Option ℕ) → name ≡ name_of_word p from → number ≡ seq_of_word seq
-      → packet_of_words p (from ∷ seq ∷ text ∷ []) ≡ None
+      → packet_line_of_words p (from ∷ seq ∷ text ∷ []) ≡ None
   unframed None number named numbered = rw (← named) refl
   unframed (Some name) None named numbered = rw (← named, ← numbered) refl
   unframed (Some name) (Some number) named numbered = rw (← named, ← numbered, ← none) refl
 
   -- and what spells none ends no packet, whichever words it has
-  among : (others : List (List ℕ)) → words text ≡ others → packet_of_words p (from ∷ seq ∷ others) ≡ None
+  among : (others : List (List ℕ)) → words text ≡ others → packet_line_of_words p (from ∷ seq ∷ others) ≡ None
   among [] are = refl
   among (word ∷ []) are =
       let same : word ≡ text = ap (join_with_byte 32) (sym are) ∙ join_with_byte-slice_split 32 text in
-      ap (λ w. packet_of_words p (from ∷ seq ∷ w ∷ [])) same ∙ unframed (name_of_word p from) (seq_of_word seq) refl refl
+      ap (λ w. packet_line_of_words p (from ∷ seq ∷ w ∷ [])) same ∙ unframed (name_of_word p from) (seq_of_word seq) refl refl
   among (word ∷ other ∷ others) are = refl
 
-  pub no_packet : packet_of_words p (from ∷ seq ∷ words text) ≡ None
+  pub no_packet : packet_line_of_words p (from ∷ seq ∷ words text) ≡ None
   no_packet = among (words text) refl

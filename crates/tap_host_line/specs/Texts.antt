@@ -39,9 +39,9 @@ abbrev pub text_of_refused : ℕ → Why → List ℕ
 text_of_refused number because = codes "refused " ++ decimal number ++ codes " " ++ word_of_why because ++ codes "\n"
 
 -- who answers a lookup
-abbrev pub text_of_server : Option Name → List ℕ
-text_of_server None = codes "none"
-text_of_server (Some server) = codes "server " ++ text_of_name server
+abbrev pub text_of_lookup_server : Option Name → List ℕ
+text_of_lookup_server None = codes "none"
+text_of_lookup_server (Some server) = codes "server " ++ text_of_name server
 
 -- the news of a step
 abbrev pub text_of_news : News → List ℕ
@@ -49,7 +49,7 @@ text_of_news Nothing = []
 text_of_news Core = codes "core\n"
 text_of_news Gone = codes "gone\n"
 text_of_news (Answered ticket server) =
-    codes "answered " ++ decimal ticket ++ codes " " ++ text_of_server server ++ codes "\n"
+    codes "answered " ++ decimal ticket ++ codes " " ++ text_of_lookup_server server ++ codes "\n"
 text_of_news (Cast cast reached closed) =
     (if reached then codes "reached " ++ decimal cast ++ codes "\n" else [])
     ++ (if closed then codes "closed " ++ decimal cast ++ codes "\n" else [])

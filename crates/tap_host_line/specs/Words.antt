@@ -6,7 +6,7 @@ use Rattle.clap.specs.Words.{Kinds, Row, Text, first_of, matches_of}
 use Rattle.tap_name.specs.Name.{Name, name_of_word}
 use Rattle.tap_name.specs.Settings.{SettingsValue}
 use Rattle.tap_scenario.specs.Step.{number_below}
-use Rattle.tap_host_line.specs.Command.{command_app, faults}
+use Rattle.tap_host_line.specs.Command.{faults_of_node_words, node_app}
 use Rattle.tap_host_line.specs.declared.asked.Asked.{Asked}
 
 -- the number below 256 that a text writes
@@ -20,29 +20,29 @@ settings_within base digits width =
     then Some (record { base = base; digits = digits; width = width }) else None
 
 -- the settings of these numbers, if all are there
-abbrev pub settings_of : Option ℕ → Option ℕ → Option ℕ → Option SettingsValue
-settings_of (Some base) (Some digits) (Some width) = settings_within base digits width
-settings_of _ _ _ = None
+abbrev pub settings_if_given : Option ℕ → Option ℕ → Option ℕ → Option SettingsValue
+settings_if_given (Some base) (Some digits) (Some width) = settings_within base digits width
+settings_if_given _ _ _ = None
 
 -- the settings at their options
-abbrev pub settings_in : List Row → Option SettingsValue
-settings_in rows =
-    settings_of (byte_in (first_of (codes "base") rows)) (byte_in (first_of (codes "digits") rows)) (byte_in (first_of (codes "width") rows))
+abbrev pub settings_in_rows : List Row → Option SettingsValue
+settings_in_rows rows =
+    settings_if_given (byte_in (first_of (codes "base") rows)) (byte_in (first_of (codes "digits") rows)) (byte_in (first_of (codes "width") rows))
 
 -- the name at its option
-abbrev pub name_in : SettingsValue → List Row → Option Name
-name_in p rows = option_and_then (name_of_word p) (first_of (codes "name") rows)
+abbrev pub name_in_rows : SettingsValue → List Row → Option Name
+name_in_rows p rows = option_and_then (name_of_word p) (first_of (codes "name") rows)
 
 -- what the command has found in the words
-abbrev pub asked_of_rows : List Row → Option Asked
-asked_of_rows rows =
-    option_and_then (λ p. option_map (λ name. record { settings = p; name = name }) (name_in p rows)) (settings_in rows)
+abbrev pub node_asked_in_rows : List Row → Option Asked
+node_asked_in_rows rows =
+    option_and_then (λ p. option_map (λ name. record { settings = p; name = name }) (name_in_rows p rows)) (settings_in_rows rows)
 
 -- nothing, if the command refuses them
-abbrev pub asked_unless : Kinds → List Row → Option Asked
-asked_unless [] rows = asked_of_rows rows
-asked_unless (kind ∷ kinds) rows = None
+abbrev pub node_asked_unless : Kinds → List Row → Option Asked
+node_asked_unless [] rows = node_asked_in_rows rows
+node_asked_unless (kind ∷ kinds) rows = None
 
 -- What the words say, if they are accepted: if the command takes them, and each is within its limits.
-unfoldable pub asked_by : List Text → Option Asked
-asked_by words = asked_unless (faults words) (matches_of command_app words)
+unfoldable pub node_asked_by : List Text → Option Asked
+node_asked_by words = node_asked_unless (faults_of_node_words words) (matches_of node_app words)

@@ -2,7 +2,7 @@ ghost use Rattle.std.specs.Prelude.{◌≡◌, ◌≢◌, map, IfOk, IfSome, Err
 ghost use Rattle.std.specs.String.{string_bytes};
 ghost use Rattle.clap.specs.Words.{first_of, found_of, rows_of};
 ghost use Rattle.tap_name.specs.Name.{IsName};
-ghost use Rattle.tap_host_line.specs.Words.{asked_by, asked_of_rows, byte_in, name_in};
+ghost use Rattle.tap_host_line.specs.Words.{byte_in, name_in_rows, node_asked_by, node_asked_in_rows};
 
 use crate::command::matches;
 use clap::ArgMatches;
@@ -52,7 +52,7 @@ impl Error for WordsRefusal {}
 ///
 /// Rule: docs/NETWORK.md, "The process of a node".
 pub fn read_words(alloc: Global, words: &[String]) -> Result<Asked, WordsRefusal>
-    ensures value { result ≢ Err WordsRefusal.NoMemory → result ≡ ok_or (asked_by (map string_bytes words.now)) WordsRefusal.Usage }
+    ensures value { result ≢ Err WordsRefusal.NoMemory → result ≡ ok_or (node_asked_by (map string_bytes words.now)) WordsRefusal.Usage }
     ensures name { IfOk result (λ asked. IsName asked.settings asked.name) }
 {
     match matches(alloc, words) {
@@ -69,7 +69,7 @@ pub fn read_words(alloc: Global, words: &[String]) -> Result<Asked, WordsRefusal
 
 // What the matches say.
 fn asked_in(matches: &ArgMatches) -> Option<Asked>
-    ensures value { result ≡ asked_of_rows (rows_of (found_of matches.now)) }
+    ensures value { result ≡ node_asked_in_rows (rows_of (found_of matches.now)) }
     ensures name { IfSome result (λ asked. IsName asked.settings asked.name) }
 {
     let base = byte_at(matches, "base")?;
@@ -93,7 +93,7 @@ fn byte_at(matches: &ArgMatches, id: &str) -> Option<u8>
 
 // The name at its option.
 fn name_at(matches: &ArgMatches, settings: &Settings) -> Option<Name>
-    ensures value { result ≡ name_in settings.now (rows_of (found_of matches.now)) }
+    ensures value { result ≡ name_in_rows settings.now (rows_of (found_of matches.now)) }
     ensures valid { IfSome result (IsName settings.now) }
 {
     let text = matches.get_str("name")?;

@@ -1,7 +1,7 @@
 ghost use Rattle.std.specs.Prelude.{◌≡◌, false, map, IfOk};
 ghost use Rattle.std.specs.String.{string_bytes};
 ghost use Rattle.clap.specs.Words.{FailsBy, app_of, found_of, matches_of, rows_of, rule_of};
-ghost use Rattle.tap_host_line.specs.Command.{bare_app, command_app, faults, option_rule};
+ghost use Rattle.tap_host_line.specs.Command.{bare_node_app, faults_of_node_words, node_app, option_rule};
 
 use clap::{Arg, ArgAction, ArgMatches, Command, Error};
 use std::alloc::{AllocError, Global};
@@ -15,14 +15,14 @@ fn option_arg<'a>(alloc: Global, name: &'a str) -> Arg<'a>
 }
 
 fn bare_command<'a>(alloc: Global) -> Command<'a>
-    ensures { app_of result ≡ bare_app }
+    ensures { app_of result ≡ bare_node_app }
 {
     Command::new(alloc, "tapestry_node").no_binary_name(true)
 }
 
 // The command: four options.
 fn command<'a>(alloc: Global) -> Result<Command<'a>, AllocError>
-    ensures { IfOk result (λ c. app_of c ≡ command_app) }
+    ensures { IfOk result (λ c. app_of c ≡ node_app) }
 {
     bare_command(alloc)
         .arg(option_arg(alloc, "base"))?
@@ -33,8 +33,8 @@ fn command<'a>(alloc: Global) -> Result<Command<'a>, AllocError>
 
 // What the command finds in the words, or why it refuses them.
 pub(crate) fn matches<'a>(alloc: Global, words: &'a [String]) -> Result<ArgMatches<'a>, Error>
-    ensures ok { IfOk result (λ m. rows_of (found_of m) ≡ matches_of command_app (map string_bytes words.entry.now)) }
-    ensures faults { FailsBy (faults (map string_bytes words.entry.now)) result }
+    ensures ok { IfOk result (λ m. rows_of (found_of m) ≡ matches_of node_app (map string_bytes words.entry.now)) }
+    ensures faults { FailsBy (faults_of_node_words (map string_bytes words.entry.now)) result }
 {
     command(alloc)?.try_get_matches_from(words)
 }

@@ -1,7 +1,7 @@
 ghost use Rattle.std.specs.Prelude.{◌≡◌, ◌++◌, [], codes, decimal, OnOk, if◌then◌else◌};
 ghost use Rattle.hex.specs.Hex.{encode_lower};
 ghost use Rattle.tap_name.specs.Name.{text_of_name};
-ghost use Rattle.tap_host_line.specs.Texts.{text_of_ack, text_of_begun, text_of_count, text_of_news, text_of_packet, text_of_refused, text_of_server, text_of_status};
+ghost use Rattle.tap_host_line.specs.Texts.{text_of_ack, text_of_begun, text_of_count, text_of_lookup_server, text_of_news, text_of_packet, text_of_refused, text_of_status};
 
 use crate::draft::{Draft, FEW_BYTES};
 use crate::memory::NoMemory;
@@ -119,7 +119,7 @@ pub fn put_count(out: &mut Vec<u8>, word: &str, count: u64) -> Result<(), NoMemo
 
 // Adds the line of the answer to a lookup.
 fn put_answered(out: &mut Vec<u8>, ticket: u32, server: &Option<Name>) -> Result<(), NoMemory>
-    ensures { OnOk result (out.new.items ≡ out.old.items ++ (codes "answered " ++ decimal ticket ++ codes " " ++ text_of_server server.now ++ codes "\n")) }
+    ensures { OnOk result (out.new.items ≡ out.old.items ++ (codes "answered " ++ decimal ticket ++ codes " " ++ text_of_lookup_server server.now ++ codes "\n")) }
 {
     out.extend_from_slice(b"answered ")?;
     put_number(out, ticket)?;
@@ -131,7 +131,7 @@ fn put_answered(out: &mut Vec<u8>, ticket: u32, server: &Option<Name>) -> Result
 
 // Adds who answers a lookup.
 fn put_server(out: &mut Vec<u8>, server: &Option<Name>) -> Result<(), NoMemory>
-    ensures { OnOk result (out.new.items ≡ out.old.items ++ text_of_server server.now) }
+    ensures { OnOk result (out.new.items ≡ out.old.items ++ text_of_lookup_server server.now) }
 {
     match server {
         Some(server) => {

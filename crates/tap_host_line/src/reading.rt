@@ -1,7 +1,7 @@
 ghost use Rattle.std.specs.Prelude.{◌≡◌, ◌≤◌, [], ◌∷◌, IfOk, IfSome, MatchOption};
 ghost use Rattle.tap_name.specs.Name.{IsName, name_of_word};
 ghost use Rattle.tap_scenario.specs.Step.{one_name, only};
-ghost use Rattle.tap_host_line.specs.Line.{IsLine, IsStart, ack_of_words, cast_of_words, find_of_words, level_of_word, line_of_text, line_of_words, members_of_words, packet_of_words, start_of_words, seq_of_word, u32_of_word};
+ghost use Rattle.tap_host_line.specs.Line.{IsNodeLine, IsNodeStart, ack_line_of_words, cast_start_of_words, find_start_of_words, level_of_word, members_line_of_words, node_line_of_text, node_line_of_words, packet_line_of_words, seq_of_word, start_of_words, u32_of_word};
 
 use crate::hexadecimal::bytes_of_hex;
 use crate::line::{Line, Start};
@@ -23,8 +23,8 @@ const MOST_FRAMES: u64 = 4_000_000_000;
 ///
 /// Rule: docs/NETWORK.md, "Lines".
 pub fn read_line(alloc: Global, settings: &Settings, text: &[u8]) -> Result<Option<Line>, NoMemory>
-    ensures value { IfOk result (λ line. line ≡ line_of_text settings.now text.now) }
-    ensures valid { IfOk result (λ line. IfSome line (IsLine settings.now)) }
+    ensures value { IfOk result (λ line. line ≡ node_line_of_text settings.now text.now) }
+    ensures valid { IfOk result (λ line. IfSome line (IsNodeLine settings.now)) }
 {
     let mut words = Words::of(text);
     let Some(word) = words.next() else {
@@ -43,8 +43,8 @@ fn line_of(
     verb: Verb,
     words: Words<'_>,
 ) -> Result<Option<Line>, NoMemory>
-    ensures value { IfOk result (λ line. line ≡ line_of_words settings.now verb words.entry) }
-    ensures valid { IfOk result (λ line. IfSome line (IsLine settings.now)) }
+    ensures value { IfOk result (λ line. line ≡ node_line_of_words settings.now verb words.entry) }
+    ensures valid { IfOk result (λ line. IfSome line (IsNodeLine settings.now)) }
 {
     match verb {
         Verb::Packet => read_packet(alloc, settings, words),
@@ -68,7 +68,7 @@ fn line_of(
 // The start with this verb and these words after it.
 fn start_of(settings: &Settings, verb: Verb, words: Words<'_>) -> Option<Start>
     ensures value { result ≡ start_of_words settings.now verb words.entry }
-    ensures valid { IfSome result (IsStart settings.now) }
+    ensures valid { IfSome result (IsNodeStart settings.now) }
 {
     match verb {
         Verb::Join => {
@@ -173,8 +173,8 @@ fn read_packet(
     settings: &Settings,
     words: Words<'_>,
 ) -> Result<Option<Line>, NoMemory>
-    ensures value { IfOk result (λ line. line ≡ packet_of_words settings.now words.entry) }
-    ensures valid { IfOk result (λ line. IfSome line (IsLine settings.now)) }
+    ensures value { IfOk result (λ line. line ≡ packet_line_of_words settings.now words.entry) }
+    ensures valid { IfOk result (λ line. IfSome line (IsNodeLine settings.now)) }
 {
     let Some((from, mut words)) = first_word(words) else {
         return Ok(None);
@@ -202,8 +202,8 @@ fn read_packet(
 // The acknowledgement that the words are.
 #[inline(never)]
 fn read_ack(settings: &Settings, words: Words<'_>) -> Option<Line>
-    ensures value { result ≡ ack_of_words settings.now words.entry }
-    ensures valid { IfSome result (IsLine settings.now) }
+    ensures value { result ≡ ack_line_of_words settings.now words.entry }
+    ensures valid { IfSome result (IsNodeLine settings.now) }
 {
     let (from, mut words) = first_word(words)?;
     let seq = words.next()?;
@@ -222,8 +222,8 @@ fn read_members(
     settings: &Settings,
     mut words: Words<'_>,
 ) -> Result<Option<Line>, NoMemory>
-    ensures value { IfOk result (λ line. line ≡ members_of_words settings.now [] words.entry) }
-    ensures valid { IfOk result (λ line. IfSome line (IsLine settings.now)) }
+    ensures value { IfOk result (λ line. line ≡ members_line_of_words settings.now [] words.entry) }
+    ensures valid { IfOk result (λ line. IfSome line (IsNodeLine settings.now)) }
 {
     let mut names = List::new(alloc);
     while let Some(word) = words.next() {
@@ -247,8 +247,8 @@ fn read_members(
 // The lookup that the words are.
 #[inline(never)]
 fn read_find(settings: &Settings, mut words: Words<'_>) -> Option<Start>
-    ensures value { result ≡ find_of_words settings.now words.entry }
-    ensures valid { IfSome result (IsStart settings.now) }
+    ensures value { result ≡ find_start_of_words settings.now words.entry }
+    ensures valid { IfSome result (IsNodeStart settings.now) }
 {
     let ticket = words.next()?;
     let object = words.next()?;
@@ -263,8 +263,8 @@ fn read_find(settings: &Settings, mut words: Words<'_>) -> Option<Start>
 // The cast that the words are.
 #[inline(never)]
 fn read_cast(settings: &Settings, mut words: Words<'_>) -> Option<Start>
-    ensures value { result ≡ cast_of_words settings.now words.entry }
-    ensures valid { IfSome result (IsStart settings.now) }
+    ensures value { result ≡ cast_start_of_words settings.now words.entry }
+    ensures valid { IfSome result (IsNodeStart settings.now) }
 {
     let number = words.next()?;
     let word = words.next()?;

@@ -4,23 +4,23 @@ use Rattle.std.specs.String.{string_bytes}
 use Rattle.clap.specs.Words.{HasKind, Kinds, Row, Text, kind_of, matches_of}
 use Rattle.clap.specs.declared.error.Error.{Error}
 use Rattle.clap.specs.declared.error.ErrorKind.TheVariants.{OutOfMemory}
-use Rattle.tap_host_line.specs.Command.{command_app, faults}
-use Rattle.tap_host_line.specs.Words.{asked_by, asked_of_rows, asked_unless}
+use Rattle.tap_host_line.specs.Command.{faults_of_node_words, node_app}
+use Rattle.tap_host_line.specs.Words.{node_asked_by, node_asked_in_rows, node_asked_unless}
 use Rattle.tap_host_line.specs.declared.asked.WordsRefusal.TheVariants.{Usage}
 use Rattle.tap_host_line.proofs.asked.read_words.Goals as goal
 
-accepted : (words : List Text) (rows : List Row) → faults words ≡ [] → rows ≡ matches_of command_app words → asked_of_rows rows ≡ asked_by words
-unfolding asked_by
+accepted : (words : List Text) (rows : List Row) → faults_of_node_words words ≡ [] → rows ≡ matches_of node_app words → node_asked_in_rows rows ≡ node_asked_by words
+unfolding node_asked_by
 accepted words rows none same = rw (none, same) refl
 
-refused_by : (kinds : Kinds) (rows : List Row) (e : Error) → HasKind kinds e → kind_of e ≢ OutOfMemory → None ≡ asked_unless kinds rows
+refused_by : (kinds : Kinds) (rows : List Row) (e : Error) → HasKind kinds e → kind_of e ≢ OutOfMemory → None ≡ node_asked_unless kinds rows
 refused_by [] rows e (inl memory) other = absurd (other memory)
 refused_by [] rows e (inr h) other = absurd h
 refused_by (kind ∷ kinds) rows e h other = refl
 
-refused : (words : List Text) (e : Error) → HasKind (faults words) e → kind_of e ≢ OutOfMemory → None ≡ asked_by words
-unfolding asked_by
-refused words e h other = refused_by (faults words) (matches_of command_app words) e h other
+refused : (words : List Text) (e : Error) → HasKind (faults_of_node_words words) e → kind_of e ≢ OutOfMemory → None ≡ node_asked_by words
+unfolding node_asked_by
+refused words e h other = refused_by (faults_of_node_words words) (matches_of node_app words) e h other
 
 pub returns-in-Some-clause-value : goal.returns-in-Some-clause-value
 returns-in-Some-clause-value c = λ _.

@@ -1,11 +1,11 @@
 use Rattle.std.proofs.Common.{◌∙◌, ap₂}
 use Rattle.std.proofs.lemmas.Result.{IfOk-weaker}
 use Rattle.clap.specs.Words.{with_rule}
-use Rattle.tap_host_line.specs.Command.{command_app}
+use Rattle.tap_host_line.specs.Command.{node_app}
 use Rattle.tap_host_line.proofs.command.command.Goals as goal
 
 pub returns : goal.returns
-unfolding command_app
+unfolding node_app
 returns c =
     IfOk-weaker c.arg-4.result _ _
     (λ r h. h.shape c.option_arg-4.ensures.local

@@ -7,7 +7,7 @@ use Rattle.std.proofs.lemmas.List.Quantifiers.{all_pairs_push}
 use Rattle.tap_name.specs.Name.{IsName}
 use Rattle.tap_name.specs.Names.{Among, has_name}
 use Rattle.tap_name.proofs.Membership.{among_at, has_name-Decides}
-use Rattle.tap_host_line.specs.Line.{members_of_words, most_members}
+use Rattle.tap_host_line.specs.Line.{members_line_of_words, most_line_members}
 use Rattle.tap_host_line.proofs.Members.{more_members}
 use Rattle.tap_host_line.proofs.reading.read_members.Goals as goal
 
@@ -19,12 +19,12 @@ loop-word-preserved c =
     let word = c.in-Some.word.now in
     let rest = c.next.new.self in
     let none : has_name names name ≡ false = rw c.as_slice.ensures at (sym c.if-contains.ensures.value) in
-    let few : nat_le most_members (length names) ≡ false =
-    lt-leb most_members (length names) (omega (arith, c.if-len-ge-MOST_MEMBERS.false, c.len.ensures)) in
+    let few : nat_le most_line_members (length names) ≡ false =
+    lt-leb most_line_members (length names) (omega (arith, c.if-len-ge-MOST_MEMBERS.false, c.len.ensures)) in
     let Is : List ℕ → Type 0 = λ n. Among n names in
     rw c.in_ok-push.ensures.ok (record {
       rest = sym (more_members p names rest word name c.in-Some-name_of.ensures.value few none)
-          ∙ ap (members_of_words p names) (sym c.in-Some.ensures) ∙ c.loop-word.invariant.rest;
+          ∙ ap (members_line_of_words p names) (sym c.in-Some.ensures) ∙ c.loop-word.invariant.rest;
       each = All-push (IsName p) names name c.loop-word.invariant.each (search rules);
       distinct = all_pairs_push (λ x y. x ≢ y) names name c.loop-word.invariant.distinct
           (λ k d within same. true≢false (sym ((has_name-Decides names name).1 (subst Is same (among_at names k d within))) ∙ none));

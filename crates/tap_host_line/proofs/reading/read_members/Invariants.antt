@@ -1,12 +1,12 @@
 use Rattle.std.proofs.Common.{◌≡◌, ◌≤◌, All, [], length}
 use Rattle.tap_name.specs.Name.{IsName}
 use Rattle.tap_name.specs.Distinct.{AreDistinct}
-use Rattle.tap_host_line.specs.Line.{members_of_words}
+use Rattle.tap_host_line.specs.Line.{members_line_of_words}
 use Rattle.tap_host_line.proofs.reading.read_members.Given as goal
 
 abbrev pub invariant-loop-word : goal.invariant-loop-word
 invariant-loop-word l = record {
-  rest : members_of_words l.settings l.names l.words ≡ members_of_words l.settings [] l.fn.words;
+  rest : members_line_of_words l.settings l.names l.words ≡ members_line_of_words l.settings [] l.fn.words;
   each : All (IsName l.settings) l.names;
   distinct : AreDistinct l.names;
   few : length l.names ≤ 256;

@@ -2,7 +2,7 @@ use Rattle.std.proofs.Common.{◌≡◌, ◌∙◌, List, ℕ, None, Some, ◌�
 use Rattle.std.specs.Prelude.{option_map}
 use Rattle.tap_scenario.specs.Words.{words}
 use Rattle.tap_host_line.specs.declared.line.Line.TheVariants.{Packet}
-use Rattle.tap_host_line.specs.Line.{frame_of_word, packet_of_words}
+use Rattle.tap_host_line.specs.Line.{frame_of_word, packet_line_of_words}
 use Rattle.tap_host_line.proofs.Packets.{no_packet, packet_read}
 use Rattle.tap_host_line.proofs.reading.read_packet.Goals as goal
 
@@ -20,7 +20,7 @@ returns-in-Some-2-clause-value c =
     ap (λ (frame : List ℕ). Some (Packet c.in-Some-Some.from c.in-Some-Some.seq frame)) c.from_vec.ensures
     ∙ sym (packet_read c.args.settings.now from seq text c.in-Some-Some.from c.in-Some-Some.seq c.in-Some-2.bytes.items
     c.in-Some-Some.ensures.value c.in-Some-Some.ensures'.value framed)
-    ∙ ap (packet_of_words c.args.settings.now) (sym all)
+    ∙ ap (packet_line_of_words c.args.settings.now) (sym all)
 
 pub returns-in-None-clause-value : goal.returns-in-None-clause-value
 returns-in-None-clause-value c =
@@ -32,4 +32,4 @@ returns-in-None-clause-value c =
     ∙ ap (λ (others : List (List ℕ)). from ∷ others)
     (c.in-Some-next.ensures ∙ ap (λ (others : List (List ℕ)). seq ∷ others) (sym c.in-Some-text.ensures)) in
     let framed : None ≡ frame_of_word text = sym (ap (option_map (λ found. found.items)) c.in-None.is) ∙ c.in_ok-bytes.ensures in
-    sym (no_packet c.args.settings.now from seq text framed) ∙ ap (packet_of_words c.args.settings.now) (sym all)
+    sym (no_packet c.args.settings.now from seq text framed) ∙ ap (packet_line_of_words c.args.settings.now) (sym all)

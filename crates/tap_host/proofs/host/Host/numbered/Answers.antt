@@ -5,7 +5,7 @@ use Rattle.tap_host_line.specs.Texts.{text_of_ack}
 use Rattle.tap_node.specs.Node.{has_room_left}
 use Rattle.tap_node.specs.Outcome.{take_outcome}
 use Rattle.tap_host.specs.Actor.{below_given}
-use Rattle.tap_host.specs.Host.{refused, with_node, with_taken}
+use Rattle.tap_host.specs.Host.{refused, with_frame_taken, with_node}
 use Rattle.tap_host.specs.Intake.{has_taken}
 use Rattle.tap_host.specs.Mail.{mail_seen}
 use Rattle.tap_host.proofs.Entering.{not_false, not_true}
@@ -70,7 +70,7 @@ returns-then-not-has_room c =
     rw (← c.self.view_is)
     (fills_as c.full-then-not-has_room.result _ _ _ _ h number
     (number_steps a m i0 b number from seq frame taken room
-    ∙ after_full h (with_taken h from seq) number (text_of_ack from seq) (take_outcome a.node frame) c.in-Ok.turn given.0 numbers)
+    ∙ after_full h (with_frame_taken h from seq) number (text_of_ack from seq) (take_outcome a.node frame) c.in-Ok.turn given.0 numbers)
     c.full-then-not-has_room.ensures)
 
 pub give_back-requires : goal.give_back-requires
@@ -99,10 +99,10 @@ returns-in_ok-put_ack-in-Ok c =
     let h = seen_host a m i0 b in
     let below = c.take.ensures.below ∙ ap (below_given a.casts_below) c.in-Ok.is in
     rw (← c.self.view_is)
-    (turns_as c.turned.result _ _ _ _ (seen_host x m i1 b) (with_node (with_taken h from seq) x.node turn) turn (text_of_ack from seq)
+    (turns_as c.turned.result _ _ _ _ (seen_host x m i1 b) (with_node (with_frame_taken h from seq) x.node turn) turn (text_of_ack from seq)
     c.put_ack-in-Ok.new.out.items
     (number_steps a m i0 b number from seq frame taken room
-    ∙ after_turn h (with_taken h from seq) number (text_of_ack from seq) (take_outcome a.node frame) x.node turn given.0 given.1 numbers)
+    ∙ after_turn h (with_frame_taken h from seq) number (text_of_ack from seq) (take_outcome a.node frame) x.node turn given.0 given.1 numbers)
     (acted_host a x m i0 i1 b _ turn below (taken_now i0 i1 from seq c.in_ok-enter.ensures.after))
     c.in_ok-put_ack-in-Ok.ensures c.turned.ensures)
 
@@ -131,7 +131,7 @@ returns-in_ok-give_back-in-Err c =
     rw (← c.self.view_is)
     (refuses_as c.refuse.result _ _ _ _ h number c.in_ok-why-in-Err.why
     (number_steps a m i0 b number from seq frame taken room
-    ∙ after_fault h (with_taken h from seq) number (text_of_ack from seq) (take_outcome a.node frame) fault given.0
+    ∙ after_fault h (with_frame_taken h from seq) number (text_of_ack from seq) (take_outcome a.node frame) fault given.0
     ∙ ap (refused h number) (sym c.in_ok-why-in-Err.ensures.why))
     (λ j. record {
       actor = record { node = node j; casts_below = below j };
