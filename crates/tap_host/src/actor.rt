@@ -4,7 +4,7 @@ ghost use Rattle.tap_name.specs.Name.{IsName};
 ghost use Rattle.tap_rule.specs.Node.{joiner, member_at_rest, settings_of};
 ghost use Rattle.tap_node.specs.Node.{has_room_left, node_status, running};
 ghost use Rattle.tap_node.specs.Outcome.{start_outcome, take_outcome};
-ghost use Rattle.tap_host_line.specs.Line.{IsNodeStart};
+ghost use Rattle.tap_host_line.specs.Line.{IsNodeStart, most_line_members};
 ghost use Rattle.tap_host.specs.Actor.{ActsAs, below_after, below_given, has_start, is_new, is_of_join, start_of};
 
 use crate::memory::NoMemory;
@@ -58,7 +58,7 @@ impl Actor {
         requires names { All (IsName settings.now) members.now }
         requires distinct { AreDistinct members.now }
         requires member { Contains members.now name }
-        requires few { length members.now ≤ 256 }
+        requires few { length members.now ≤ most_line_members }
         ensures { IfOk result (λ actor. actor ≡ record { node = running (member_at_rest settings.now members.now name); casts_below = 0 }) }
     {
         Ok(Actor {

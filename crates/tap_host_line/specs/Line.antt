@@ -47,11 +47,11 @@ verb_of_word word = find (λ verb. bytes_eq word (text_of_verb verb)) verbs
 
 -- ---- what single words say
 
--- the number of a frame is at most this
+-- the number of a frame is at most this, which is `most_frames` of `tap_carry`
 abbrev pub most_seq : ℕ
 most_seq = 4000000000
 
--- so many members have ties at rest
+-- so many members have ties at rest, which is `most_names` of `tap_safety`
 abbrev pub most_line_members : ℕ
 most_line_members = 256
 

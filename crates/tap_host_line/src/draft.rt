@@ -1,7 +1,7 @@
 ghost use Rattle.std.specs.Prelude.{◌≡◌, ◌≤◌, ◌+◌, ◌*◌, ◌++◌, [], length, decimal};
 ghost use Rattle.hex.specs.Hex.{encode_lower};
 ghost use Rattle.tap_name.specs.Name.{text_of_name};
-ghost use Rattle.tap_host_line.specs.Draft.{most_drafted};
+ghost use Rattle.tap_host_line.specs.Draft.{most_drafted, most_name_digits, most_number_digits};
 
 use itoa::Buffer;
 use std::marker::Model;
@@ -12,6 +12,9 @@ pub(crate) const FEW_BYTES: usize = 256;
 
 // There is room for the line of a packet with such a frame, which has a word, a name, a number, three spaces and its end besides.
 const ROOM: usize = 2 * FEW_BYTES + 64;
+
+// A name has at most so many digits.
+const MOST_NAME_DIGITS: usize = 40;
 
 // A line that is put together in a room on the stack, so that all of it is added at once. Contracts see its bytes.
 #[derive(Drop)]
@@ -67,23 +70,26 @@ impl Draft {
 
     // Adds a name, a byte for each digit. All places are printed at once, and the first of them taken.
     pub(crate) fn push_name(&mut self, name: &Name)
-        requires { length self.old + 40 ≤ most_drafted }
+        requires { length self.old + most_name_digits ≤ most_drafted }
         ensures text { self.new ≡ self.old ++ text_of_name name.now }
-        ensures len { length self.new ≤ length self.old + 40 }
+        ensures len { length self.new ≤ length self.old + most_name_digits }
     {
         let digits = name.digits();
         let digits = digits.as_slice();
-        let mut places = [0; 40];
+        let mut places = [0; MOST_NAME_DIGITS];
         places[..digits.len()].copy_from_slice(digits);
-        print_digits(&places, &mut self.room[self.len..self.len + 40]);
+        print_digits(
+            &places,
+            &mut self.room[self.len..self.len + MOST_NAME_DIGITS],
+        );
         self.len += digits.len();
     }
 
     // Adds a number in decimal.
     pub(crate) fn push_number(&mut self, number: u32)
-        requires { length self.old + 10 ≤ most_drafted }
+        requires { length self.old + most_number_digits ≤ most_drafted }
         ensures text { self.new ≡ self.old ++ decimal number }
-        ensures len { length self.new ≤ length self.old + 10 }
+        ensures len { length self.new ≤ length self.old + most_number_digits }
     {
         let mut buffer = Buffer::new();
         self.push(buffer.format(number).as_bytes());

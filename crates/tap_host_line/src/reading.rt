@@ -12,11 +12,11 @@ use std::alloc::Global;
 use tap_name::{List, Name, Settings, read_name};
 use tap_scenario::{Word, Words, read_number};
 
-// More members than this have no ties at rest.
+// More members than this have no ties at rest. `tap_node` takes no more.
 const MOST_MEMBERS: usize = 256;
 
-// The number of a frame is at most this.
-const MOST_FRAMES: u64 = 4_000_000_000;
+// The number of a frame is at most this. It is `MOST_FRAMES` of `tap_carry`.
+const MOST_SEQ: u64 = 4_000_000_000;
 
 /// The line that a text is, if it is one: its words have one space between them and nothing before or after them, its names are names of the
 /// settings, written digit by digit, and its numbers are decimal, with no sign and no leading zero.
@@ -159,7 +159,7 @@ fn seq_of(word: &[u8]) -> Option<u32>
     ensures value { result ≡ seq_of_word word.now }
     ensures from { IfSome result (λ seq. 1 ≤ seq) }
 {
-    let number = read_number(word, MOST_FRAMES)?;
+    let number = read_number(word, MOST_SEQ)?;
     if number == 0 {
         return None;
     }
