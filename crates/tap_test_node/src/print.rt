@@ -95,7 +95,10 @@ fn print_frame(
 ) -> io::Result<()> {
     let spelled = hex::encode(rt.alloc(), bytes)?;
     let word = kind_word(FrameKind::of(&frame.body));
-    println!(rt; "sent {number} {word} {} {} {spelled}", frame.from, frame.to)
+    println!(rt;
+        "sent {number} {word} {} {} {spelled}",
+        frame.from, frame.to
+    )
 }
 
 /// Prints the status of a node.
