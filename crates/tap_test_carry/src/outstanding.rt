@@ -24,15 +24,20 @@ fn take(rt: &impl Abort, outstanding: &mut Outstanding, place: u32, number: u32)
     assert!(rt; outstanding.place_of(number) == None);
 }
 
+// Sends frames, with the numbers 0 on.
+fn send_all(rt: &impl Abort, outstanding: &mut Outstanding, count: u32) {
+    for number in 0..count {
+        send(rt, outstanding, number);
+    }
+}
+
 // Takes frames from the middle, the front and the end, over more than two levels.
 #[test]
 fn places_follow_what_is_taken(rt: HostRuntime) {
     let mut outstanding = Outstanding::new(rt.alloc());
     assert!(rt; outstanding.is_empty());
     assert!(rt; outstanding.newest() == None);
-    for number in 0..600 {
-        send(&rt, &mut outstanding, number);
-    }
+    send_all(&rt, &mut outstanding, 600);
     assert!(rt; outstanding.sent() == 600);
     for (place, number) in &[
         (300, 300),
