@@ -1,4 +1,4 @@
-ghost use Rattle.std.specs.Prelude.{◌≡◌, ◌==◌, ◌≤◌, ℕ, false, [], if◌then◌else◌, not, Some, IfOk, OnOk, OnErr};
+ghost use Rattle.std.specs.Prelude.{◌≡◌, ◌==◌, ◌≤◌, false, [], if◌then◌else◌, IfOk, OnOk, OnErr};
 ghost use Rattle.tap_table.specs.Levels.{is_kept};
 ghost use Rattle.tap_cast.specs.Casts.{level_of_cast, turn_of, with_cast};
 

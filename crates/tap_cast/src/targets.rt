@@ -2,7 +2,6 @@ ghost use Rattle.std.specs.Prelude.{◌≡◌, ◌+◌, ◌<◌, ◌≤◌, ◌+
 ghost use Rattle.std.specs.List.{flat_map};
 ghost use Rattle.tap_link.specs.LinkSet.{least_settled};
 ghost use Rattle.tap_table.specs.ByName.{slots_in};
-ghost use Rattle.tap_table.specs.Table.{links_at};
 ghost use Rattle.tap_table.specs.Levels.{is_between};
 ghost use Rattle.tap_cast.specs.Targets.{cast_targets, pins_of, primary_or_pins, slot_targets, told_at};
 

@@ -1,6 +1,5 @@
-ghost use Rattle.std.specs.Prelude.{◌≡◌, ◌<◌, ◌≤◌, ◌*◌, ◌&&◌, All, length, map, Some, None, Err, IfOk};
+ghost use Rattle.std.specs.Prelude.{◌≡◌, ◌<◌, ◌≤◌, ◌*◌, ◌&&◌, length, map, Some, None, Err, IfOk};
 ghost use Rattle.std.specs.List.{list_all};
-ghost use Rattle.tap_name.specs.Packed.{joined};
 ghost use Rattle.tap_line.specs.declared.fault.LineFault.TheVariants.{NoLine};
 ghost use Rattle.tap_line.specs.Front.{bytes_of_hex};
 ghost use Rattle.tap_line.specs.Hexadecimal.{is_digit, loose_value};

@@ -1,4 +1,4 @@
-ghost use Rattle.std.specs.Prelude.{◌≡◌, Some, None, Err, IfOk, codes, option_map};
+ghost use Rattle.std.specs.Prelude.{◌≡◌, Some, None, Err, IfOk, option_map};
 ghost use Rattle.tap_line.specs.declared.fault.LineFault.TheVariants.{NoLine};
 ghost use Rattle.tap_line.specs.Front.{names_before};
 ghost use Rattle.tap_line.specs.Reading.{is_path, request, root_set_line_of_words, root_set_of_words, walk_end, walked_of_words};

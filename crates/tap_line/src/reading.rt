@@ -1,4 +1,4 @@
-ghost use Rattle.std.specs.Prelude.{◌≡◌, ◌≢◌, ◌↔◌, Some, None, Ok, Err, IfOk, codes};
+ghost use Rattle.std.specs.Prelude.{◌≡◌, ◌≢◌, ◌↔◌, Some, None, Ok, Err, IfOk};
 ghost use Rattle.tap_report.specs.Starts.{begin_line};
 ghost use Rattle.tap_line.specs.declared.line.Line.{Line};
 ghost use Rattle.tap_line.specs.declared.line.Beginning.{Beginning};

@@ -1,4 +1,4 @@
-ghost use Rattle.std.specs.Prelude.{◌≡◌, ◌^◌, ◌<◌, IfSome};
+ghost use Rattle.std.specs.Prelude.{◌≡◌, ◌^◌, ◌<◌};
 ghost use Rattle.tap_line.specs.Fault.{bad_kinds, bad_of_kind, bad_of_words, fault_kinds, fault_of_kind, fault_of_words, garbled_of_words, text_of_bad, text_of_fault};
 ghost use Rattle.tap_line.specs.Front.{chosen};
 ghost use Rattle.tap_line.specs.Refusal.{chosen_refusal, counted, departing_of_words, refusal_of_kind, refusal_of_words, refused_of_words};

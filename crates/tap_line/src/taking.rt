@@ -1,5 +1,4 @@
-ghost use Rattle.std.specs.Prelude.{◌≡◌, ◌+◌, ◌<◌, ◌≤◌, IfSome, length, option_map, slice_index, slice_range};
-ghost use Rattle.std.specs.Option.{option_zip};
+ghost use Rattle.std.specs.Prelude.{◌≡◌, ◌+◌, ◌<◌, ◌≤◌, IfSome, option_map};
 ghost use Rattle.tap_scenario.specs.Step.{one_number, only};
 ghost use Rattle.tap_line.specs.Front.{digit, digit_of_word, is_rest, letters, name, number, told, word};
 

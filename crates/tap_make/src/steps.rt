@@ -1,7 +1,7 @@
 ghost use Rattle.std.specs.Prelude.{◌≡◌, ◌≤◌, ◌∷◌, ◌++◌, length, OnOk};
 ghost use Rattle.tap_make.specs.Draws.{further};
 ghost use Rattle.tap_make.specs.MadeNames.{HasMadeNames, object_count};
-ghost use Rattle.tap_make.specs.MadeSteps.{lookup_count, lookups_from, made_departures, made_lookups, made_publications, publications_from};
+ghost use Rattle.tap_make.specs.MadeSteps.{lookups_from, made_departures, made_lookups, made_publications, publications_from};
 
 use crate::draws::Draws;
 use crate::names::Names;

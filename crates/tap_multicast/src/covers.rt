@@ -1,6 +1,6 @@
 ghost use Rattle.std.specs.Prelude.{◌≡◌, false, [], IfOk, OnOk, OnErr};
 ghost use Rattle.tap_table.specs.Levels.{is_kept};
-ghost use Rattle.tap_multicast.specs.Covers.{MayCover, cover_of, covered, level_kept, with_cover};
+ghost use Rattle.tap_multicast.specs.Covers.{MayCover, covered, level_kept, with_cover};
 
 use crate::cover::Cover;
 use crate::offer::{left_watch, offer};

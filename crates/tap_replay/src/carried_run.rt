@@ -5,15 +5,12 @@ ghost use Rattle.tap_carried_world.specs.Value.{CarriesRun};
 ghost use Rattle.tap_lawful.specs.Next.{beginning_in, begun_count};
 ghost use Rattle.tap_scenario.specs.Step.{asks_no_roots};
 ghost use Rattle.tap_engine.specs.World.{whole_log};
-ghost use Rattle.tap_engine.specs.Kinds.{observes};
-ghost use Rattle.tap_history.specs.StepAsks.{is_start};
 ghost use Rattle.tap_lawful.specs.CarriedDue.{carried_due};
 ghost use Rattle.tap_lawful.specs.CarriedLaws.{measure_of};
 ghost use Rattle.tap_lawful.specs.CarriedNext.{carried_next_group};
 ghost use Rattle.tap_lawful.specs.CarriedRuns.{IsCarriedFinished};
 ghost use Rattle.tap_replay.specs.CarriedPlayer.{CarriedTurnsAs, GoesOnCarriedUnless, IsCarriedLeft};
 ghost use Rattle.tap_replay.specs.CarriedRun.{AddsCarried, IsCarriedRunOf};
-ghost use Rattle.tap_replay.specs.CarriedTurn.{carried_turn_outcome};
 ghost use Rattle.tap_replay.specs.Player.{over_by};
 ghost use Rattle.tap_runs.specs.Course.{is_choice};
 

@@ -2,7 +2,7 @@ ghost use Rattle.std.specs.Prelude.{◌≡◌, ◌≤◌, length, IsTrue, IfOk, 
 ghost use Rattle.std.specs.Option.{ok_or};
 ghost use Rattle.toml.specs.Parse.{parse_document};
 ghost use Rattle.toml.specs.View.{table_view, items_view};
-ghost use Rattle.tap_scenario.specs.Document.{read_at, settings_of_table, frames_of_table, carrier_of_table, members_of_table, steps_with, numbered_steps, steps_of_table, script_of, scenario_of_table, scenario_of};
+ghost use Rattle.tap_scenario.specs.Document.{read_at, settings_of_table, frames_of_table, carrier_of_table, members_of_table, steps_with, numbered_steps, steps_of_table, scenario_of_table, scenario_of};
 ghost use Rattle.tap_scenario.specs.Key.{missing_key, is_known, has_known_keys, wrong_key};
 ghost use Rattle.tap_scenario.specs.Scenario.{IsScript};
 ghost use Rattle.tap_scenario.specs.ReadRefusal.{AnswersUnlessMemory, TellsFault};

@@ -1,6 +1,5 @@
-ghost use Rattle.std.specs.Prelude.{◌≡◌, ◌≤◌, IfSome};
-ghost use Rattle.tap_name.specs.Name.{IsName};
-ghost use Rattle.tap_scenario.specs.Spelling.{is_spelling, name_of_spelling, name_in, salt_number, salt_in, object_in};
+ghost use Rattle.std.specs.Prelude.{◌≡◌, ◌≤◌};
+ghost use Rattle.tap_scenario.specs.Spelling.{is_spelling, name_of_spelling, name_in, salt_number, object_in};
 
 use tap_name::{Name, Settings, are_word_bytes, read_name};
 use tap_salt::{name_of, salt};

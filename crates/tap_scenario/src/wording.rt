@@ -1,5 +1,4 @@
 ghost use Rattle.std.specs.Prelude.{◌≡◌};
-ghost use Rattle.tap_scenario.specs.Kind.{text_of_kind};
 ghost use Rattle.tap_scenario.specs.Step.{step_of_name, step_of_pair, step_of_place, text_of_step};
 ghost use Rattle.tap_scenario.specs.Wording.{HasFirstWord, text_of_words};
 

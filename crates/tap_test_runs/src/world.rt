@@ -1,5 +1,5 @@
 // A world of one member, run by hand.
-ghost use Rattle.std.specs.Prelude.{◌≡◌, ◌≤◌, ℕ, IsTrue, Some, true, false, not, length, option_and_then};
+ghost use Rattle.std.specs.Prelude.{◌≡◌, ◌≤◌, ℕ, IsTrue, Some, false, not, length, option_and_then};
 ghost use Rattle.std.specs.List.{list_any};
 ghost use Rattle.tap_scenario.specs.Step.{IsStep};
 ghost use Rattle.tap_log.specs.MoreRecords.{at_most_one};

@@ -1,5 +1,4 @@
-ghost use Rattle.std.specs.Prelude.{◌≡◌, ◌+◌, ◌*◌, ◌-◌, ◌≤◌, ◌<◌, length, IfSome};
-ghost use Rattle.tap_name.specs.Name.{IsName};
+ghost use Rattle.std.specs.Prelude.{◌≡◌, ◌+◌, ◌*◌, ◌-◌, ◌≤◌, ◌<◌, length};
 ghost use Rattle.tap_name.specs.Settings.{AreWithinLimits};
 ghost use Rattle.tap_wire.specs.Layout.{most_slots, is_long, version_of, head_len, body_start, link_len, name_len, varying_len, body_len};
 ghost use Rattle.tap_wire.specs.Spelling.{body_bytes, IsBody};
