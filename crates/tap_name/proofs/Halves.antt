@@ -1,5 +1,5 @@
 -- bytes and their halves: two digits a byte, and back
--- Cited above: halves-digits, halves-length, joined-all, joined-more, joined_front
+-- Cited above: halves-digits, halves-length, joined_front
 use Rattle.std.proofs.Common.{◌≡◌, ◌++◌, ◌+◌, ◌-◌, ◌*◌, ◌/◌, ◌%◌, ◌<◌, ◌≤◌, ◌∙◌, ℕ, zero, suc, List, [], ◌∷◌, take, replicate, length, length-set, set, get_or, take_all, All, refl, ap, sym, arith}
 use Rattle.std.proofs.lemmas.List.{take_more, take_more_set, length-take-le, append_assoc}
 use Rattle.std.proofs.lemmas.List.Elements.{All-nil, All-cons, All-head, All-tail}
