@@ -1,5 +1,5 @@
 -- How many of the frames of a step pass a test that neither a Link nor a Lay passes: as many as of its messages.
--- Cited above: count-append, count-cons, count-map_none, count-none, counted, CountsMessages
+-- Cited above: count-cons
 use Rattle.std.proofs.Common.{◌≡◌, ℕ, ◌+◌, ◌≤◌, Bool, true, false, cond, List, [], ◌∷◌, ◌++◌, map, arith, ap, refl, sym, ◌∙◌, inl, inr}
 use Rattle.std.specs.Prelude.{count_by}
 use Rattle.std.proofs.lemmas.List.Sums.{sum_by-append, sum_by-cons}

@@ -2,7 +2,7 @@
 use Rattle.std.proofs.Common.{arith, refl}
 use Rattle.tap_wire.specs.declared.frame.Frame.{Frame}
 use Rattle.tap_safety.specs.Frames.{tell_body}
-use Rattle.tap_session_moves.proofs.Depths.{sessions_shallow}
+use Rattle.tap_moves.proofs.Depths.{sessions_shallow}
 use Rattle.tap_safety_moves.proofs.SoundMoves.{run_is_sound}
 use Rattle.tap_bounds.specs.Depths.{RunIsNotDeep, SoundIsNotDeep}
 

@@ -25,3 +25,15 @@ mod OpenRules
 mod OpenSteps
 mod OpenActs
 mod Openings
+mod JoinRules
+pub mod Made
+pub mod JoinsKept
+pub mod OfJoins
+mod Words
+mod Links
+mod LinkSteps
+mod LinkMoves
+mod Releases
+mod ReleaseMoves
+mod NamedFew
+pub mod LinkRuns

@@ -9,7 +9,7 @@ use Rattle.tap_safety.specs.Move.{Move}
 use Rattle.tap_safety.specs.Remembered.{OpenSession}
 use Rattle.tap_safety.specs.Sessions.{IsOpen}
 use Rattle.tap_safety.specs.System.{System, IsUnderWay}
-use Rattle.tap_session_moves.specs.FewMoves.{most_open}
+use Rattle.tap_moves.specs.FewMoves.{most_open}
 use Rattle.tap_safety_moves.specs.SoundMoves.{after_moves, may_run}
 use Rattle.tap_safety_moves.specs.Sound.{Sound}
 

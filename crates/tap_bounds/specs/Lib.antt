@@ -10,3 +10,5 @@ pub mod Dones
 pub mod Publications
 pub mod Depths
 pub mod Openings
+pub mod OfJoins
+pub mod LinkBounds

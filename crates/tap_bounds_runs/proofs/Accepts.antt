@@ -26,7 +26,7 @@ use Rattle.tap_runs.proofs.Frames.{starting_moves, step_moves, taken_moves}
 use Rattle.tap_runs.proofs.Nodes.{HasNoStep, joiner_is_new, name_at, no_steps, none_accepted, none_named, start_in, taken_no_step}
 use Rattle.tap_runs.proofs.Within.{IsIdle, IsStarting, is_accepted, step_kind, step_within, taken_within}
 use Rattle.tap_safe_runs.proofs.Starting.{starting_accepted}
-use Rattle.tap_join_bounds.specs.OfJoins.{IsJoin, JoinsAlone}
+use Rattle.tap_bounds.specs.OfJoins.{IsJoin, JoinsAlone}
 use Rattle.tap_bounds_runs.specs.Joins.{joined_by, joined_in, is_other_start}
 
 -- ---- a step that starts something

@@ -13,8 +13,8 @@ use Rattle.tap_bounds.specs.Acks.{is_ack, is_tell_body}
 use Rattle.tap_bounds.specs.Dones.{is_done_body}
 use Rattle.tap_bounds.specs.Few.{is_heard, is_hello}
 use Rattle.tap_bounds.proofs.Counting.{count-cons}
-use Rattle.tap_join_bounds.specs.LinkBounds.{links_off, links_on, releases_pin}
-use Rattle.tap_join_bounds.specs.OfJoins.{IsJoinBody, joiner_said}
+use Rattle.tap_bounds.specs.LinkBounds.{links_off, links_on, releases_pin}
+use Rattle.tap_bounds.specs.OfJoins.{IsJoinBody, joiner_said}
 use Rattle.tap_bounds_runs.proofs.Sums.{count-at_one}
 use Rattle.tap_safety.proofs.Said.{Said, said_of}
 use Rattle.tap_safety.proofs.Said.Said.{IsAck, IsDone, IsHeard, IsHello, IsLink, IsRelease, IsSeek, IsTell}

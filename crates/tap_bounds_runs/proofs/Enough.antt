@@ -43,7 +43,7 @@ use Rattle.tap_safe_runs.proofs.Possible.{may_take}
 use Rattle.tap_safe_runs.proofs.Safe.{runs_are_sound}
 use Rattle.tap_bounds.specs.FewSent.{traffic_of}
 use Rattle.tap_bounds.specs.Traffic.{Traffic, no_traffic, sent_by}
-use Rattle.tap_join_bounds.specs.OfJoins.{JoinsAlone}
+use Rattle.tap_bounds.specs.OfJoins.{JoinsAlone}
 use Rattle.tap_bounds_runs.specs.Enough.{AsksForJoinsAlone, EndsFinished, HasEnoughFrames, NeverSpent, joined_by_steps}
 use Rattle.tap_bounds_runs.specs.Joins.{AcceptsJoinsAlone, joined_in, most_of_joins, is_other_start}
 use Rattle.tap_bounds_runs.specs.Traffic.{bytes_sent, moves_of, traffic_in}

@@ -34,7 +34,7 @@ use Rattle.tap_safe_runs.proofs.Possible.{group_may_move}
 use Rattle.tap_safe_runs.proofs.Safe.{run_at_moment, runs_are_sound, steps_after, steps_before}
 use Rattle.tap_bounds.specs.FewSent.{traffic_of}
 use Rattle.tap_bounds.specs.Traffic.{Traffic, no_traffic}
-use Rattle.tap_join_bounds.specs.OfJoins.{JoinsAlone}
+use Rattle.tap_bounds.specs.OfJoins.{JoinsAlone}
 use Rattle.tap_bounds_runs.specs.Joins.{AcceptsJoinsAlone, JoinsSendFew, joined_by, joined_in, most_of_joins, is_other_start}
 use Rattle.tap_bounds_runs.specs.Traffic.{moves_of, traffic_in}
 use Rattle.tap_bounds_runs.proofs.Accepts.{Accepts, group_accepts}

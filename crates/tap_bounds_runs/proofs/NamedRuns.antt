@@ -23,9 +23,9 @@ use Rattle.tap_safety_moves.proofs.SoundMoves.{move_keeps}
 use Rattle.tap_safety_moves.proofs.Delivered.{is_delivery}
 use Rattle.tap_bounds.specs.FewSent.{traffic_of}
 use Rattle.tap_bounds.specs.Traffic.{Traffic, no_traffic, traffic_after}
-use Rattle.tap_join_bounds.specs.OfJoins.{JoinsAlone, joiner_said}
-use Rattle.tap_join_bounds.proofs.JoinsKept.{joiner_joins}
-use Rattle.tap_join_bounds.proofs.Made.{IsMade, delivery_made, join_made}
+use Rattle.tap_bounds.specs.OfJoins.{JoinsAlone, joiner_said}
+use Rattle.tap_bounds.proofs.JoinsKept.{joiner_joins}
+use Rattle.tap_bounds.proofs.Made.{IsMade, delivery_made, join_made}
 use Rattle.tap_bounds_runs.specs.Joins.{joined_in}
 
 -- ---- nodes, and joiners of frames

@@ -18,7 +18,7 @@ use Rattle.tap_safety.specs.System.{System}
 use Rattle.tap_safety.proofs.Said.{Said, said_of}
 use Rattle.tap_safety.proofs.Said.Said.{IsTell, IsHello}
 use Rattle.tap_safety_moves.specs.SoundMoves.{after_moves}
-use Rattle.tap_cover_moves.proofs.WordsAnew.{among_names}
+use Rattle.tap_moves.proofs.WordsAnew.{among_names}
 use Rattle.tap_bounds.specs.Acks.{AcksAreFew, is_ack, is_ack_from, is_tell_body, is_tell_to}
 use Rattle.tap_bounds.specs.Dones.{DonesAreFew, is_done_body, is_done_to}
 use Rattle.tap_bounds.specs.Few.{FewAreSent, is_heard, is_heard_from, is_hello, is_hello_to, is_seek_of}
@@ -33,10 +33,10 @@ use Rattle.tap_bounds.proofs.HelloMoves.{few_are_once, run_hellos_few}
 use Rattle.tap_bounds.proofs.FewSent.{run_sends_few}
 use Rattle.tap_bounds.proofs.KnownTaken.{heards_by_hellos, run_knows_all}
 use Rattle.tap_bounds.proofs.TellMoves.{run_tells_few}
-use Rattle.tap_join_bounds.specs.LinkBounds.{LinkFramesAreFew, links_off, links_on, releases_pin}
-use Rattle.tap_join_bounds.specs.OfJoins.{SentAreOfJoins, joiner_said}
-use Rattle.tap_join_bounds.proofs.LinkRuns.{run_links_few}
-use Rattle.tap_join_bounds.proofs.OfJoins.{run_sent_are_of_joins}
+use Rattle.tap_bounds.specs.LinkBounds.{LinkFramesAreFew, links_off, links_on, releases_pin}
+use Rattle.tap_bounds.specs.OfJoins.{SentAreOfJoins, joiner_said}
+use Rattle.tap_bounds.proofs.LinkRuns.{run_links_few}
+use Rattle.tap_bounds.proofs.OfJoins.{run_sent_are_of_joins}
 use Rattle.tap_bounds_runs.specs.Joins.{RunJoinsSendFew, joined_in, most_of_joins}
 use Rattle.tap_bounds_runs.proofs.ByKind.{all_kinds, by_joiner, by_receiver, by_sender, is_seek, itself, with_body}
 use Rattle.tap_bounds_runs.proofs.NamedRuns.{AreNamed, run_named}

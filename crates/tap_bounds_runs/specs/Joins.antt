@@ -17,7 +17,7 @@ use Rattle.tap_safety.specs.Move.Move.{Begins}
 use Rattle.tap_safety_moves.specs.SoundMoves.{may_run}
 use Rattle.tap_bounds.specs.FewSent.{traffic_of}
 use Rattle.tap_bounds.specs.Traffic.{no_traffic}
-use Rattle.tap_join_bounds.specs.OfJoins.{JoinsAlone}
+use Rattle.tap_bounds.specs.OfJoins.{JoinsAlone}
 
 -- how many frames so many joins send at most, if there are so many names
 abbrev pub most_of_joins : SettingsValue → ℕ → ℕ → ℕ

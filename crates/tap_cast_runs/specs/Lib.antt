@@ -3,3 +3,11 @@ pub mod ReachedOnce
 pub mod Begun
 pub mod ReachAll
 pub mod AwaitedAnswers
+pub mod SlotAnswers
+pub mod Recalled
+pub mod Watched
+pub mod Chains
+pub mod Runs
+pub mod Had
+pub mod Clause
+pub mod WatchMoves

@@ -9,20 +9,20 @@ use Rattle.tap_safe_runs.specs.Safe.{IsRun}
 use Rattle.tap_safe_runs.proofs.SafeLogs.{ended_logs_are_safe}
 use Rattle.tap_pointer_runs.specs.Paths.{PointersOnTheirPaths}
 use Rattle.tap_pointer_runs.proofs.Runs.{on_paths_at}
-use Rattle.tap_lookup_runs.specs.Alone.{LookupsAloneAreExact}
-use Rattle.tap_lookup_runs.specs.AnsweredOnce.{LookupsAreAnswered}
-use Rattle.tap_lookup_runs.specs.LookupAnswers.{AnswersWerePublished}
-use Rattle.tap_lookup_runs.proofs.Alone.{alone_at}
-use Rattle.tap_lookup_runs.proofs.AnsweredOnce.{answered_at_moments}
-use Rattle.tap_lookup_runs.proofs.Runs.{answers_at}
-use Rattle.tap_lookup_runs.specs.NoServer.{AnsweredNoneWereDisturbed, LookupsEndWithoutServer}
-use Rattle.tap_lookup_runs.proofs.NoServer.{disturbed_at_moments, ends_at_moments}
+use Rattle.tap_pointer_runs.specs.Alone.{LookupsAloneAreExact}
+use Rattle.tap_pointer_runs.specs.AnsweredOnce.{LookupsAreAnswered}
+use Rattle.tap_pointer_runs.specs.LookupAnswers.{AnswersWerePublished}
+use Rattle.tap_pointer_runs.proofs.Alone.{alone_at}
+use Rattle.tap_pointer_runs.proofs.AnsweredOnce.{answered_at_moments}
+use Rattle.tap_pointer_runs.proofs.RunAnswers.{answers_at}
+use Rattle.tap_pointer_runs.specs.NoServer.{AnsweredNoneWereDisturbed, LookupsEndWithoutServer}
+use Rattle.tap_pointer_runs.proofs.NoServer.{disturbed_at_moments, ends_at_moments}
 use Rattle.tap_cast_runs.specs.ReachAll.{CastsReachAll}
 use Rattle.tap_cast_runs.proofs.ReachAll.{reach_all_at}
 use Rattle.tap_cast_runs.specs.AwaitedAnswers.{AnswersAreAwaited, RestHasNoCastSessions}
 use Rattle.tap_cast_runs.proofs.Sessions.{answers_awaited_at, rest_sessions_at}
-use Rattle.tap_watch_runs.specs.Clause.{WatchClauseHolds}
-use Rattle.tap_watch_runs.proofs.Clause.{clause_at}
+use Rattle.tap_cast_runs.specs.Clause.{WatchClauseHolds}
+use Rattle.tap_cast_runs.proofs.Clause.{clause_at}
 use Rattle.tap_bounds_runs.specs.AtRest.{LookupsAtRestSendFew, PublicationsAtRestSendFew}
 use Rattle.tap_bounds_runs.proofs.AtRest.{lookups_at, publications_at}
 use Rattle.tap_bounds_runs.specs.Joins.{JoinsSendFew}

@@ -20,7 +20,7 @@ use Rattle.tap_lawful.proofs.CarriedReduction.{by_carried, run_more, run_starts,
 use Rattle.tap_lawful.proofs.CarriedTurns.{TellsNoRoots, turn_of_group}
 use Rattle.tap_lawful.proofs.Played.{by_next}
 use Rattle.tap_lawful.proofs.Uncarried.{UncarriedSoFar, far_more, far_starts, turn_next}
-use Rattle.tap_lookup_runs.specs.Alone.{IsExactIn, LookupsAloneAreExact}
+use Rattle.tap_pointer_runs.specs.Alone.{IsExactIn, LookupsAloneAreExact}
 use Rattle.tap_pointer_runs.specs.Paths.{IsPublishedIn}
 use Rattle.tap_headline.specs.RootSets.{FindsServer, HeadlineFindsSalts, IsToldRight, RootSetsAreRight, SaltsAreFound}
 use Rattle.tap_headline.proofs.Openings.{IsOpening, opening_of}

@@ -26,21 +26,21 @@ use Rattle.tap_runs.specs.Course.{system_of}
 use Rattle.tap_runs.specs.Observed.{nodes_of, pair_line}
 use Rattle.tap_pointer_moves.specs.Paths.{HoldsPair}
 use Rattle.tap_pointer_runs.specs.Paths.{IsPublishedIn, PointersOnTheirPaths}
-use Rattle.tap_lookup_runs.specs.Alone.{LookupsAloneAreExact}
-use Rattle.tap_lookup_runs.specs.AnsweredOnce.{LookupsAreAnswered}
-use Rattle.tap_lookup_runs.specs.LookupAnswers.{AnswersWerePublished}
-use Rattle.tap_lookup_runs.specs.NoServer.{AnsweredNoneWereDisturbed, LookupsEndWithoutServer}
-use Rattle.tap_lookup_runs.proofs.Endings.{answered_kept, disturbed_kept, ends_kept}
-use Rattle.tap_lookup_runs.proofs.Unanswered.{IsUnanswered, IsUnasked}
+use Rattle.tap_pointer_runs.specs.Alone.{LookupsAloneAreExact}
+use Rattle.tap_pointer_runs.specs.AnsweredOnce.{LookupsAreAnswered}
+use Rattle.tap_pointer_runs.specs.LookupAnswers.{AnswersWerePublished}
+use Rattle.tap_pointer_runs.specs.NoServer.{AnsweredNoneWereDisturbed, LookupsEndWithoutServer}
+use Rattle.tap_pointer_runs.proofs.Endings.{answered_kept, disturbed_kept, ends_kept}
+use Rattle.tap_pointer_runs.proofs.Unanswered.{IsUnanswered, IsUnasked}
 use Rattle.tap_cast_runs.specs.ReachAll.{CastsReachAll, HasReachedAll, ReachesWhomItHasTo, ReachesWhomItMay}
 use Rattle.tap_cast_runs.specs.AwaitedAnswers.{AnswersAreAwaited, HasCastSession, HasJoinSession, RestHasNoCastSessions}
 use Rattle.tap_cast_runs.specs.ReachedOnce.{closed_count, reached_count, says_closed, says_reached}
-use Rattle.tap_watch_runs.specs.SlotAnswers.{FirstCover, WatchMemory, had_primary, none_answered}
-use Rattle.tap_watch_runs.specs.Chains.{ChainLeadsTo}
-use Rattle.tap_watch_runs.specs.Clause.{CoreHasAnswersNow, WatchClauseHolds}
-use Rattle.tap_watch_runs.specs.Runs.{watch_recalled_by, watches_after, watches_from, watches_of}
-use Rattle.tap_watch_runs.specs.Watched.{CoveredFirst, IsAnswered}
-use Rattle.tap_watch_runs.proofs.ChainsTold.{told_longer}
+use Rattle.tap_cast_runs.specs.SlotAnswers.{FirstCover, WatchMemory, had_primary, none_answered}
+use Rattle.tap_cast_runs.specs.Chains.{ChainLeadsTo}
+use Rattle.tap_cast_runs.specs.Clause.{CoreHasAnswersNow, WatchClauseHolds}
+use Rattle.tap_cast_runs.specs.Runs.{watch_recalled_by, watches_after, watches_from, watches_of}
+use Rattle.tap_cast_runs.specs.Watched.{CoveredFirst, IsAnswered}
+use Rattle.tap_cast_runs.proofs.ChainsTold.{told_longer}
 use Rattle.tap_headline.proofs.Ended.{IsEnded, IsPlain, one_plain, step_plain}
 use Rattle.tap_headline.proofs.KeptByEnds.{IsKept, each_group, rest_before}
 use Rattle.tap_headline.proofs.Memory.{Remembers, memory_stays}

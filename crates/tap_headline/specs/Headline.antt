@@ -8,13 +8,13 @@ use Rattle.tap_runs.specs.Beginning.{Beginning}
 use Rattle.tap_safe_runs.specs.SafeLogs.{AtMomentsOf, IsSafeThroughout}
 use Rattle.tap_safe_runs.specs.Safe.{IsRun}
 use Rattle.tap_pointer_runs.specs.Paths.{PointersOnTheirPaths}
-use Rattle.tap_lookup_runs.specs.Alone.{LookupsAloneAreExact}
-use Rattle.tap_lookup_runs.specs.AnsweredOnce.{LookupsAreAnswered}
-use Rattle.tap_lookup_runs.specs.LookupAnswers.{AnswersWerePublished}
-use Rattle.tap_lookup_runs.specs.NoServer.{AnsweredNoneWereDisturbed, LookupsEndWithoutServer}
+use Rattle.tap_pointer_runs.specs.Alone.{LookupsAloneAreExact}
+use Rattle.tap_pointer_runs.specs.AnsweredOnce.{LookupsAreAnswered}
+use Rattle.tap_pointer_runs.specs.LookupAnswers.{AnswersWerePublished}
+use Rattle.tap_pointer_runs.specs.NoServer.{AnsweredNoneWereDisturbed, LookupsEndWithoutServer}
 use Rattle.tap_cast_runs.specs.ReachAll.{CastsReachAll}
 use Rattle.tap_cast_runs.specs.AwaitedAnswers.{AnswersAreAwaited, RestHasNoCastSessions}
-use Rattle.tap_watch_runs.specs.Clause.{WatchClauseHolds}
+use Rattle.tap_cast_runs.specs.Clause.{WatchClauseHolds}
 use Rattle.tap_bounds_runs.specs.AtRest.{LookupsAtRestSendFew, PublicationsAtRestSendFew}
 use Rattle.tap_bounds_runs.specs.Joins.{JoinsSendFew}
 use Rattle.tap_headline.specs.AsLogged.{FramesAreAsLogged, NodesAreAsLogged}

@@ -1,5 +1,5 @@
 -- The group that comes next in a carried run is a whole one.
--- Cited above: after_alone, is_turn
+-- Cited above: after_alone, is_turn, whole_turn
 use Rattle.std.proofs.Common.{◌≡◌, inl, inr, Bool, true, false, not, cond, List, [], ◌∷◌, ◌++◌, get_or, All, refl, ap, sym, subst, ◌∙◌}
 use Rattle.std.proofs.lemmas.Bool.{false≢true}
 use Rattle.tap_log.specs.declared.record.Record.{Record}

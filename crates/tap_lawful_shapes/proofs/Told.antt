@@ -25,9 +25,9 @@ use Rattle.tap_runs.specs.Observed.{pair_line}
 use Rattle.tap_runs.proofs.Frames.{frames_kept}
 use Rattle.tap_readable.proofs.RangeCourses.{numbers_in_range_holds}
 use Rattle.tap_safe_runs.specs.Safe.{IsRun}
-use Rattle.tap_lookup_runs.specs.LookupAnswers.{AnswersWerePublished, asks_for, was_asked}
-use Rattle.tap_lookup_runs.proofs.Runs.{answers_at}
-use Rattle.tap_lookup_moves.specs.LookupAnswers.{IsAnswerOf}
+use Rattle.tap_pointer_runs.specs.LookupAnswers.{AnswersWerePublished, asks_for, was_asked}
+use Rattle.tap_pointer_runs.proofs.RunAnswers.{answers_at}
+use Rattle.tap_pointer_moves.specs.LookupAnswers.{IsAnswerOf}
 use Rattle.tap_pointer_runs.specs.Paths.{was_published}
 use Rattle.tap_cast_moves.specs.Remembered.{CastRun}
 use Rattle.tap_cast_runs.specs.ReachedOnce.{RunIsToldOnce, is_closed, is_reached, says_closed, says_reached}

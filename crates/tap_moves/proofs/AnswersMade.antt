@@ -1,5 +1,4 @@
 -- What is remembered of sessions once a node has taken an answer, or a frame of no session.
--- Cited above: ack_is_taken, AnswerIsTaken, heard_is_taken, IsAnswered
 use Rattle.std.proofs.Common.{◌≡◌, ◌⊎◌, ℕ, ◌≤◌, length, arith, inl, inr, ap, ◌-◌, ◌<◌, List, [], ◌∷◌, Option, None, Some, if◌then◌else◌, refl, sym, subst, ◌∙◌}
 use Rattle.std.specs.Prelude.{is_none}
 use Rattle.std.proofs.lemmas.Bool.{cases_lt}

@@ -1,5 +1,5 @@
 -- What a frame that sends nobody on, and makes no node core, keeps of seekers, of Tells and of notices.
--- Cited above: frame_peaceful, frame_seeks, SendsNoTell
+-- Cited above: SendsNoTell
 use Rattle.std.proofs.Common.{◌≡◌, ◌⊎◌, ℕ, Bool, true, false, List, [], ◌∷◌, if◌then◌else◌, ap, sym, subst, inl, inr}
 use Rattle.tap_name.specs.Settings.{SettingsValue}
 use Rattle.tap_name.specs.declared.slot.Slot.{Slot}

@@ -1,6 +1,5 @@
 -- What a cover that is made now by the rule of a node tells, and whom it greets.
--- Cited above: covers_anew, hello_made, joiner_link, linked_inside, none_or_pin, other_link, settled_before, told_targets, with_joiner,
--- with_joiner_is
+-- Cited above: hello_made, joiner_link, none_or_pin, settled_before, with_joiner, with_joiner_is
 use Rattle.std.proofs.Common.{◌≡◌, ◌≢◌, ◌⊎◌, ℕ, ◌+◌, ◌<◌, ◌≤◌, true, false, List, Option, None, Some, slice_get, ap, refl, sym, ◌∙◌, inl, inr}
 use Rattle.std.specs.Option.{is_none}
 use Rattle.std.proofs.lemmas.Bool.{le-leb, lt-leb, lt-ltb, true≢false}

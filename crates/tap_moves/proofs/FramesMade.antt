@@ -1,5 +1,4 @@
 -- Tells at joining and ceased nodes, Hellos, Releases and Forgets are those of which the laws of systems speak.
--- Cited above: meets_sent
 use Rattle.std.proofs.Common.{◌≡◌, ◌≢◌, ◌⊎◌, ℕ, ◌+◌, ◌<◌, Bool, cond, List, [], ◌∷◌, Option, None, Some, true, false, ap, refl, sym, subst, ◌∙◌, inl, inr}
 use Rattle.std.proofs.lemmas.Bool.{cases_Bool}
 use Rattle.tap_name.specs.Name.{IsName}

@@ -1,5 +1,5 @@
 -- What a node sends in sessions at a Tell, and at a Seek that it takes as the surrogate.
--- Cited above: ceased_answers, only_one, seek_opens, sent_in, tell_in_session
+-- Cited above: only_one, seek_opens, tell_in_session
 use Rattle.std.proofs.Common.{◌≡◌, ◌==◌, ℕ, ◌+◌, ◌≤◌, Bool, cond, true, false, List, [], ◌∷◌, ◌++◌, length, map, Option, None, Some, arith, ap, refl, sym, ◌∙◌, inl, inr}
 use Rattle.std.proofs.lemmas.Bool.{eqb-false, ne_eqb}
 use Rattle.std.proofs.lemmas.List.{length-append, length-map}

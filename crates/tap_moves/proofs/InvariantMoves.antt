@@ -1,6 +1,6 @@
 -- What a delivered frame keeps, from the invariant.
--- Cited above: before_taking, core_name, due, frame_exact, frame_fills, frame_says, frame_soft, hello_names_are, joiner_name, joins_here, known_name,
--- link_ties, name_at, of_node, of_tell, seeker_not_core, sender_name, told, told_name, unmarked, way
+-- Cited above: core_name, due, frame_exact, frame_fills, hello_names_are, joiner_name, joins_here, known_name, name_at, of_node, seeker_not_core,
+-- sender_name, told, told_name, way
 use Rattle.std.proofs.Common.{◌≡◌, ◌⊎◌, ℕ, ◌<◌, ◌≤◌, true, false, List, All, Option, None, Some, arith, ap, refl, sym, subst, ◌∙◌, inl, inr}
 use Rattle.std.proofs.lemmas.Bool.{cases_Bool, cases_lt}
 use Rattle.tap_name.specs.Name.{IsName}

@@ -1,5 +1,4 @@
 -- A Done at a joining node, and a Tell at a core node, are those of which the laws of systems speak.
--- Cited above: covers_stay
 use Rattle.std.proofs.Common.{◌≡◌, ◌⊎◌, ℕ, true, List, Some, ap, sym, ◌∙◌, inl, inr}
 use Rattle.tap_link.specs.declared.kind.Kind.TheVariants.{Pin}
 use Rattle.tap_table.specs.Table.{kind_in}

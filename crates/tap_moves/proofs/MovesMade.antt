@@ -1,5 +1,5 @@
 -- A delivered frame is taken by the rule, and what holds before holds after it.
--- Cited above: by_rule, is_found, remembers, starts_none, starts_none_as, tell_starts_none
+-- Cited above: by_rule, is_found, starts_none, starts_none_as, tell_starts_none
 use Rattle.std.proofs.Common.{◌≡◌, ◌⊎◌, ℕ, ◌+◌, List, Option, None, Some, ap, refl, subst, ◌∙◌, inl, inr}
 use Rattle.tap_name.specs.Settings.{SettingsValue}
 use Rattle.tap_session.specs.declared.parent.Parent.{Parent}

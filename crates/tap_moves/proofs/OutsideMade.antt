@@ -1,5 +1,4 @@
 -- Frames of no session leave the sessions as they are, and a Hello is answered in its own.
--- Cited above: hello_hands_on, outside_leaves, quiet_none, seek_none
 use Rattle.std.proofs.Common.{◌≡◌, ℕ, Bool, List, [], ◌∷◌, Option, None, Some, true, false, if◌then◌else◌, ap, refl, sym, ◌∙◌}
 use Rattle.tap_session.specs.Session.{SessionsValue}
 use Rattle.tap_table.specs.Ties.{holders_on}

@@ -1,5 +1,5 @@
 -- Frames that leave a node what it is, with its links and covers.
--- Cited above: plain_alike, takes_frame
+-- Cited above: plain_alike
 use Rattle.std.proofs.Common.{◌≡◌, ℕ, Bool, List, [], ◌∷◌, Option, None, Some, false, ap, refl, sym, subst, ◌∙◌}
 use Rattle.tap_session.specs.Session.{SessionsValue}
 use Rattle.tap_multicast.specs.Covers.{level_kept}

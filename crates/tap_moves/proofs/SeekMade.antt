@@ -1,5 +1,4 @@
 -- A Seek at the joiner's surrogate covers it, and greets it with the primary of each slot up to the prefix.
--- Cited above: seek_covers, seek_greets, uncovered
 use Rattle.std.proofs.Common.{◌≡◌, ◌||◌, ℕ, ◌<◌, ◌≤◌, false, true, List, Contains, Option, None, Some, get_or, nat_eq, arith, ap, refl, sym, ◌∙◌, inl, inr}
 use Rattle.std.specs.Prelude.{is_some}
 use Rattle.std.specs.List.{common_prefix_len}

@@ -1,5 +1,5 @@
 -- What each delivered frame does with the sessions of joins, and what the sessions keep by it.
--- Cited above: frame_awaits, frame_core, frame_names, frame_places, left_deeper, start_names
+-- Cited above: frame_awaits, frame_core, frame_names, frame_places, left_deeper
 use Rattle.std.proofs.Common.{◌≡◌, ◌⊎◌, ℕ, ◌+◌, ◌≤◌, Bool, List, Option, None, Some, true, false, if◌then◌else◌, arith, ap, refl, sym, subst, ◌∙◌, inl, inr}
 use Rattle.tap_name.specs.Settings.{SettingsValue}
 use Rattle.tap_name.specs.declared.slot.Slot.{Slot}

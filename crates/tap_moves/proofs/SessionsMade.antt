@@ -1,5 +1,5 @@
 -- What is remembered of sessions once a node has taken a Tell, a Seek, a Hello or an answer.
--- Cited above: hands_on, leaves_sessions, node_parts, none_opened, opened_found, opens_child, opens_root
+-- Cited above: node_parts, none_opened, opened_found
 use Rattle.std.proofs.Common.{◌≡◌, ◌≢◌, ◌⊎◌, ◌==◌, ℕ, ◌+◌, ◌≤◌, false, if◌then◌else◌, List, [], ◌∷◌, Option, None, Some, arith, ap, refl, sym, ◌∙◌, inl, inr}
 use Rattle.std.proofs.lemmas.Bool.{cases_Bool, ne_eqb}
 use Rattle.tap_session.specs.declared.parent.Parent.{Parent}

@@ -1,5 +1,4 @@
 -- What a node starts: what holds before holds after it.
--- Cited above: start_fills
 use Rattle.std.proofs.Common.{◌≡◌, ℕ, List, [], ◌∷◌, Some, ap, refl, subst, ◌∙◌, inl, inr}
 use Rattle.tap_name.specs.Settings.{SettingsValue}
 use Rattle.tap_wire.specs.declared.frame.Body.TheVariants.{Seek}

@@ -1,5 +1,4 @@
 -- A frame whose taker says of each link that it changes: what is said stands, once it is delivered.
--- Cited above: IsAside, quiet_aside
 use Rattle.std.proofs.Common.{◌≡◌, ◌⊎◌, ℕ, zero, suc, ◌+◌, true, List, [], ◌∷◌, Option, None, Some, is_none, slice_get, All, arith, ap, refl, sym, subst, ◌∙◌, inl, inr}
 use Rattle.std.proofs.lemmas.Bool.{cases_lt}
 use Rattle.tap_name.specs.Name.{IsName}

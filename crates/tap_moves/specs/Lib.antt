@@ -10,3 +10,15 @@ pub mod KnownNames
 pub mod InvariantLaws
 pub mod SessionMoves
 pub mod CalmMoves
+pub mod CoverMoves
+pub mod WordMoves
+pub mod GivenUp
+pub mod StartedNodes
+pub mod JoinMoves
+pub mod FewMoves
+pub mod PinsRule
+pub mod EndMoves
+pub mod Starts
+pub mod DepartingMoves
+pub mod NoticeMoves
+pub mod PartMoves

@@ -1,5 +1,4 @@
 -- Walks as chains of next hops, each node of which is entered once.
--- Cited above: chain_next, entry_at
 use Rattle.std.proofs.Common.{◌≡◌, ℕ, suc, ◌+◌, ◌<◌, ◌≤◌, List, [], ◌∷◌, length, slice_index_or, refl, ap, sym, subst, ◌∙◌, arith, inl, inr}
 use Rattle.std.specs.List.{AllAdjacentBelow}
 use Rattle.tap_name.specs.Prefix.{lcp}

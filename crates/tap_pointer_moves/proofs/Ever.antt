@@ -1,5 +1,5 @@
 -- Whatever is known of a pair, it was published once.
--- Cited above: ever_at_rest, ever_kept, held_was_published
+-- Cited above: ever_at_rest, ever_kept
 use Rattle.std.proofs.Common.{◌≡◌, ℕ, Bool, true, false, List, None, Some, refl, ap, sym, subst, ◌∙◌, inl, inr}
 use Rattle.std.proofs.lemmas.Bool.{cases_Bool}
 use Rattle.tap_name.specs.Settings.{SettingsValue}

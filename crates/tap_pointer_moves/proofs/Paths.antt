@@ -1,5 +1,5 @@
 -- At rest pointers stand exactly on their paths.
--- Cited above: core_at_rest, held_status, pointers_on_paths, table_at, tables_settled
+-- Cited above: pointers_on_paths
 use Rattle.std.proofs.Common.{◌≡◌, ◌⊎◌, ℕ, zero, suc, ◌<◌, ◌≤◌, true, false, All, List, [], ◌∷◌, drop, length, map, slice_index_or, IsSomeAnd, Option, None, Some, refl, ap, sym, subst, ◌∙◌, arith, inl, inr}
 use Rattle.std.specs.Option.{unwrap_or}
 use Rattle.std.proofs.lemmas.Option.{slice_get-get_or}

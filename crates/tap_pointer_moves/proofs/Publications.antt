@@ -1,5 +1,5 @@
 -- Which pairs are served, and who leaves, after each move.
--- Cited above: frame_serves, leavers_stay, leaves_once, start_serves, starter_of
+-- Cited above: frame_serves, leavers_stay, leaves_once, start_serves
 use Rattle.std.proofs.Common.{◌≡◌, ◌≢◌, ◌⊎◌, ℕ, nat_eq, not, Bool, true, false, List, length, None, Some, refl, ap, sym, subst, ◌∙◌, inl, inr, if◌then◌else◌}
 use Rattle.std.specs.Prelude.{◌&&◌, ◌||◌, bytes_eq}
 use Rattle.std.specs.Cmp.Lexicographic.{pointwise}

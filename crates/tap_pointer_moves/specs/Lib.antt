@@ -5,3 +5,8 @@ pub mod PointersKept
 pub mod Paths
 pub mod Publications
 pub mod Ever
+pub mod Lookups
+pub mod LookupAnswers
+pub mod Alone
+pub mod NoServer
+pub mod LookupFrames

@@ -1,5 +1,5 @@
 -- Pointers at each moment of a run.
--- Cited above: idle_starts_none, on_paths_at, run_grown, run_rests, served_is
+-- Cited above: on_paths_at, run_grown
 use Rattle.std.proofs.Common.{◌≡◌, inl, inr, ℕ, ◌≤◌, true, false, not, List, [], ◌∷◌, ◌++◌, length, take, All, Option, None, Some, refl, ap, sym, subst, ◌∙◌}
 use Rattle.std.specs.Prelude.{◌&&◌, ◌||◌}
 use Rattle.std.proofs.lemmas.Bool.{and_parts}

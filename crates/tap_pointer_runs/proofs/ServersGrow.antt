@@ -1,5 +1,4 @@
 -- Pointers stand after each group of a run, and the pairs that are served are those that its log has as published.
--- Cited above: ever_grows, Grown, was_grows
 use Rattle.std.proofs.Common.{◌≡◌, ◌⊎◌, inl, inr, ℕ, ◌≤◌, nat_eq, not, Bool, true, false, List, [], ◌∷◌, ◌++◌, length, All, Option, None, Some, append-nil, arith, if◌then◌else◌, refl, ap, sym, subst, ◌∙◌}
 use Rattle.std.specs.Prelude.{◌&&◌, ◌||◌, bytes_eq}
 use Rattle.std.specs.Cmp.Lexicographic.{pointwise}

@@ -1,1 +1,5 @@
 pub mod Paths
+pub mod LookupAnswers
+pub mod Alone
+pub mod NoServer
+pub mod AnsweredOnce

@@ -17,7 +17,7 @@ use Rattle.tap_safety.proofs.Said.Said.{IsAck, IsDone, IsForget, IsGone, IsHeard
 use Rattle.tap_safety.specs.Notices.{IsNotice}
 use Rattle.tap_moves.specs.KnownNames.{AreNodes}
 use Rattle.tap_moves.specs.InvariantLaws.{IsTakenThere, IsFilledThere}
-use Rattle.tap_session_moves.specs.PinsRule.{IsEndedStatus}
+use Rattle.tap_moves.specs.PinsRule.{IsEndedStatus}
 use Rattle.tap_safety_moves.specs.Arrivals.{AnswersOpenSession, Arrives, OthersHaveRules, TakenWhereDue, MayLackRule, IsSetApart}
 use Rattle.tap_safety_moves.proofs.Takers.{done_taker, forget_taker, hello_taker, kept_session, leave_taker, left_taker, release_taker, seek_taker, session_taker, tell_taker}
 

@@ -14,14 +14,14 @@ use Rattle.tap_safety.proofs.StepLaws.{await_others_law, awaited_others_law, oth
 use Rattle.tap_moves.specs.Delivered.{after_delivery}
 use Rattle.tap_moves.proofs.PartsMade.{parts_kept}
 use Rattle.tap_moves.proofs.SessionMoves.{frame_names, left_deeper}
-use Rattle.tap_session_moves.specs.JoinMoves.{HaveJoiners}
-use Rattle.tap_session_moves.proofs.EndMoves.{frame_ends}
-use Rattle.tap_session_moves.proofs.LeavesJoins.{joins_others_law}
+use Rattle.tap_moves.specs.JoinMoves.{HaveJoiners}
+use Rattle.tap_moves.proofs.EndMoves.{frame_ends}
+use Rattle.tap_moves.proofs.LeavesJoins.{joins_others_law}
 use Rattle.tap_safety_moves.specs.Arrivals.{Arrives, is_deepest_copy}
 use Rattle.tap_safety_moves.proofs.NotStrange.{others_are_delivered}
-use Rattle.tap_departing_moves.specs.DepartingMoves.{DepartsInOrder}
-use Rattle.tap_departing_moves.specs.PartMoves.{HaveSessions}
-use Rattle.tap_departing_moves.proofs.DepartingMoves.{frame_in_order}
+use Rattle.tap_moves.specs.DepartingMoves.{DepartsInOrder}
+use Rattle.tap_moves.specs.PartMoves.{HaveSessions}
+use Rattle.tap_moves.proofs.DepartingMoves.{frame_in_order}
 use Rattle.tap_safety_moves.specs.Ignored.{IgnoredKeeps, IgnoresFrame, MayIgnore}
 use Rattle.tap_safety_moves.specs.Sound.{SoundBasis}
 use Rattle.tap_safety_moves.proofs.Lost.{dones, joiners, leaves, lost, lost_core, lost_ended, lost_filled, lost_places, lost_seeking, lost_soft, lost_stamped, lost_tells, takes_frame}

@@ -37,7 +37,7 @@ use Rattle.tap_moves.specs.ByRule.{taken_at}
 use Rattle.tap_moves.specs.Delivered.{after_delivery}
 use Rattle.tap_moves.proofs.Exchanged.{exchanges}
 use Rattle.tap_moves.proofs.SessionsMade.{none_opened}
-use Rattle.tap_session_moves.specs.JoinMoves.{DonesStay}
+use Rattle.tap_moves.specs.JoinMoves.{DonesStay}
 use Rattle.tap_safety_moves.specs.Ignored.{IgnoredIsLost, IgnoresFrame, MayIgnore}
 
 -- ---- a frame that is ignored

@@ -16,7 +16,7 @@ use Rattle.tap_safety.proofs.StepLaws.{ceased_words_law, ties_words_law, version
 use Rattle.tap_safety.proofs.WordsKept.{at_link}
 use Rattle.tap_moves.specs.Delivered.{after_delivery}
 use Rattle.tap_moves.specs.TiesLaws.{WordsStand}
-use Rattle.tap_session_moves.specs.PinsRule.{IsEndedStatus}
+use Rattle.tap_moves.specs.PinsRule.{IsEndedStatus}
 use Rattle.tap_safety_moves.specs.Ignored.{IgnoresFrame, MayIgnore}
 use Rattle.tap_safety_moves.proofs.Lost.{frame_still, linked_same, lost, status_same, way_still, way_was}
 

@@ -25,7 +25,7 @@ use Rattle.tap_safety.specs.System.{System, HasLink}
 use Rattle.tap_safety.proofs.AtRest.{at_rest_law}
 use Rattle.tap_safety.proofs.FewSessions.{few_at_rest}
 use Rattle.tap_moves.specs.KnownNames.{AreNodes, IsNamedPair, IsNodeOf, IsParent}
-use Rattle.tap_session_moves.proofs.EndMoves.{askers_at_rest}
+use Rattle.tap_moves.proofs.EndMoves.{askers_at_rest}
 use Rattle.tap_safety_moves.specs.Sound.{SoundAtRest}
 
 -- ---- the links of a node

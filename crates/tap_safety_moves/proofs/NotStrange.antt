@@ -21,7 +21,7 @@ use Rattle.tap_safety.proofs.CoverKept.{core_or_joiner}
 use Rattle.tap_safety.proofs.Said.{Said, said_of}
 use Rattle.tap_safety.proofs.Said.Said.{IsCast, IsSeek, IsTell}
 use Rattle.tap_moves.proofs.InvariantMoves.{seeker_not_core}
-use Rattle.tap_session_moves.proofs.Depths.{tells_shallow}
+use Rattle.tap_moves.proofs.Depths.{tells_shallow}
 use Rattle.tap_safety_moves.specs.Arrivals.{Arrives, OthersAreDelivered, StrangeExactly, is_deepest_copy}
 use Rattle.tap_safety_moves.proofs.FewLinked.{few_linked}
 use Rattle.tap_safety_moves.proofs.Takers.{none_departs, seek_taker, way}

@@ -30,25 +30,25 @@ use Rattle.tap_moves.proofs.EndedMoves.{frame_ended}
 use Rattle.tap_moves.proofs.InvariantMoves.{frame_exact, frame_fills}
 use Rattle.tap_moves.proofs.PartsMade.{parts_kept, start_keeps_parts}
 use Rattle.tap_moves.proofs.SessionMoves.{frame_awaits, frame_core, frame_names, frame_places}
-use Rattle.tap_session_moves.specs.EndMoves.{HaveAskers}
-use Rattle.tap_session_moves.specs.PinsRule.{IsEndedStatus}
-use Rattle.tap_session_moves.proofs.EndMoves.{frame_ends, start_ends}
-use Rattle.tap_session_moves.proofs.FewMoves.{frame_few, start_few}
-use Rattle.tap_session_moves.proofs.JoinMoves.{frame_joins}
-use Rattle.tap_session_moves.proofs.NoticeMoves.{notice_few}
-use Rattle.tap_cover_moves.specs.GivenUp.{EndsGivenUp}
-use Rattle.tap_cover_moves.proofs.CoverMoves.{taken_seeks, taken_soft}
-use Rattle.tap_cover_moves.proofs.GivenUp.{given_up_ended, given_up_fills, given_up_seeks, given_up_soft, given_up_stamped}
-use Rattle.tap_cover_moves.proofs.GivenUpWords.{given_up_words}
-use Rattle.tap_cover_moves.proofs.StampMoves.{taken_stamped}
-use Rattle.tap_cover_moves.proofs.WordMoves.{taken_words}
+use Rattle.tap_moves.specs.EndMoves.{HaveAskers}
+use Rattle.tap_moves.specs.PinsRule.{IsEndedStatus}
+use Rattle.tap_moves.proofs.EndMoves.{frame_ends, start_ends}
+use Rattle.tap_moves.proofs.FewMoves.{frame_few, start_few}
+use Rattle.tap_moves.proofs.JoinMoves.{frame_joins}
+use Rattle.tap_moves.proofs.NoticeMoves.{notice_few}
+use Rattle.tap_moves.specs.GivenUp.{EndsGivenUp}
+use Rattle.tap_moves.proofs.CoverMoves.{taken_seeks, taken_soft}
+use Rattle.tap_moves.proofs.GivenUp.{given_up_ended, given_up_fills, given_up_seeks, given_up_soft, given_up_stamped}
+use Rattle.tap_moves.proofs.GivenUpWords.{given_up_words}
+use Rattle.tap_moves.proofs.StampMoves.{taken_stamped}
+use Rattle.tap_moves.proofs.WordMoves.{taken_words}
 use Rattle.tap_safety_moves.specs.Arrivals.{Arrives, IsSetApart}
 use Rattle.tap_safety_moves.proofs.Arrivals.{arrives_at, taken_where_due}
 use Rattle.tap_safety_moves.proofs.NotStrange.{others_are_delivered}
-use Rattle.tap_start_moves.specs.Starts.{IsNoDeparture}
-use Rattle.tap_start_moves.proofs.WholeStarts.{start_keeps, start_keeps_filled}
-use Rattle.tap_departing_moves.proofs.AllParts.{leaving_keeps, notice_keeps}
-use Rattle.tap_departing_moves.proofs.DepartingMoves.{frame_in_order}
+use Rattle.tap_moves.specs.Starts.{IsNoDeparture}
+use Rattle.tap_moves.proofs.WholeStarts.{start_keeps, start_keeps_filled}
+use Rattle.tap_moves.proofs.AllParts.{leaving_keeps, notice_keeps}
+use Rattle.tap_moves.proofs.DepartingMoves.{frame_in_order}
 use Rattle.tap_safety_moves.specs.Ignored.{IgnoresFrame}
 use Rattle.tap_safety_moves.specs.SoundMoves.{BasisKeeps, MoveKeeps, RunIsSound, may_run, after_moves}
 use Rattle.tap_safety_moves.specs.Shallow.{AreShallow}

@@ -21,7 +21,7 @@ use Rattle.tap_safety.specs.System.{System, AmongFrames, IsCoreNode, IsJoiner, I
 use Rattle.tap_safety.specs.Ties.{status_of}
 use Rattle.tap_safety.proofs.LinkKeeps.{status_seen}
 use Rattle.tap_moves.proofs.InvariantMoves.{joins_here}
-use Rattle.tap_session_moves.specs.PinsRule.{IsEndedStatus}
+use Rattle.tap_moves.specs.PinsRule.{IsEndedStatus}
 use Rattle.tap_safety_moves.specs.Arrivals.{Arrives}
 
 -- ---- statuses

@@ -9,10 +9,10 @@ use Rattle.tap_moves.specs.CalmMoves.{AreSought}
 use Rattle.tap_moves.specs.SessionMoves.{AreNamed}
 use Rattle.tap_moves.specs.KnownNames.{AreNodes}
 use Rattle.tap_moves.specs.TiesLaws.{WordsStand}
-use Rattle.tap_session_moves.specs.EndMoves.{HaveBothEnds}
-use Rattle.tap_session_moves.specs.JoinMoves.{HaveJoiners}
-use Rattle.tap_departing_moves.specs.DepartingMoves.{DepartsInOrder}
-use Rattle.tap_departing_moves.specs.PartMoves.{HaveSessions}
+use Rattle.tap_moves.specs.EndMoves.{HaveBothEnds}
+use Rattle.tap_moves.specs.JoinMoves.{HaveJoiners}
+use Rattle.tap_moves.specs.DepartingMoves.{DepartsInOrder}
+use Rattle.tap_moves.specs.PartMoves.{HaveSessions}
 use Rattle.tap_safety_moves.specs.Shallow.{AreShallow}
 use Rattle.tap_safety_moves.specs.Sound.{Sound, SoundBasis}
 

@@ -17,7 +17,7 @@ use Rattle.tap_safety.specs.Notices.{IsNotice}
 use Rattle.tap_safety.specs.System.{System, AmongFrames}
 use Rattle.tap_moves.specs.InvariantLaws.{IsDelivery, IsFilledThere, IsTakenThere}
 use Rattle.tap_moves.specs.KnownNames.{AreNodes}
-use Rattle.tap_session_moves.specs.PinsRule.{IsEndedStatus}
+use Rattle.tap_moves.specs.PinsRule.{IsEndedStatus}
 
 -- The basis of the invariant holds, each node is one that steps keep valid, with few open sessions of each joiner, and a frame of this
 -- number, sender and body is under way to this node. Nothing is said of whether the frame is strange to it.

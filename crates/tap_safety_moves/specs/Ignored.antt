@@ -11,7 +11,7 @@ use Rattle.tap_safety.specs.Moved.{IsLost}
 use Rattle.tap_safety.specs.System.{System, AmongFrames}
 use Rattle.tap_moves.specs.ByRule.{taken_at}
 use Rattle.tap_moves.specs.Delivered.{after_delivery}
-use Rattle.tap_session_moves.specs.PinsRule.{IsEndedStatus}
+use Rattle.tap_moves.specs.PinsRule.{IsEndedStatus}
 use Rattle.tap_safety_moves.specs.Sound.{Sound}
 
 -- what a node may ignore without harm: a Release or a Forget, if it has ended, and a frame of pointers or casts

@@ -6,7 +6,7 @@ use Rattle.tap_safety.specs.FewSessions.{SessionsAreFew}
 use Rattle.tap_safety.specs.Invariant.{Basis, Invariant}
 use Rattle.tap_safety.specs.System.{System}
 use Rattle.tap_moves.specs.KnownNames.{AreNodes}
-use Rattle.tap_session_moves.specs.EndMoves.{HaveAskers}
+use Rattle.tap_moves.specs.EndMoves.{HaveAskers}
 use Rattle.tap_safety_moves.specs.Shallow.{AreShallow}
 
 -- The basis of the invariant, which says all but that tables have no holes, with what stands beside it.

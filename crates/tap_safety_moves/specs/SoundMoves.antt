@@ -8,7 +8,7 @@ use Rattle.tap_safety.specs.Move.Move.{Begins, Delivers}
 use Rattle.tap_safety.specs.Moved.{moved}
 use Rattle.tap_safety.specs.Notices.{IsNotice}
 use Rattle.tap_safety.specs.System.{System, AmongFrames}
-use Rattle.tap_start_moves.specs.Starts.{IsNoDeparture}
+use Rattle.tap_moves.specs.Starts.{IsNoDeparture}
 use Rattle.tap_safety_moves.specs.Sound.{Sound, SoundBasis}
 
 -- the whole invariant holds after a possible move, if it held before

@@ -1,4 +1,0 @@
-pub mod CoverMoves
-pub mod WordMoves
-pub mod GivenUp
-pub mod StartedNodes

@@ -1,3 +1,0 @@
-pub mod DepartingMoves
-pub mod NoticeMoves
-pub mod PartMoves

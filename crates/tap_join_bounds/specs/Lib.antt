@@ -1,2 +1,0 @@
-pub mod OfJoins
-pub mod LinkBounds

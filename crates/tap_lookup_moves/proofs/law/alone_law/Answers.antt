@@ -1,8 +1,0 @@
-use Rattle.tap_lookup_moves.proofs.Alone.{lookup_begins_alone, lookup_goes_on_alone}
-use Rattle.tap_lookup_moves.proofs.law.alone_law.Goals as goal
-
-pub returns-clause-starts : goal.returns-clause-starts
-returns-clause-starts c = lookup_begins_alone
-
-pub returns-clause-frames : goal.returns-clause-frames
-returns-clause-frames c = lookup_goes_on_alone

@@ -1,4 +1,0 @@
-pub mod LookupAnswers
-pub mod Alone
-pub mod NoServer
-pub mod AnsweredOnce

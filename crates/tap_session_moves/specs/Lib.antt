@@ -1,4 +1,0 @@
-pub mod JoinMoves
-pub mod FewMoves
-pub mod PinsRule
-pub mod EndMoves

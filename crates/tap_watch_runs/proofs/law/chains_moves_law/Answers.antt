@@ -1,5 +1,0 @@
-use Rattle.tap_watch_runs.proofs.Chains.{move_keeps_chains}
-use Rattle.tap_watch_runs.proofs.law.chains_moves_law.Goals as goal
-
-pub returns : goal.returns
-returns c = move_keeps_chains

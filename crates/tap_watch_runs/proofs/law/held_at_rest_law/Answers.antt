@@ -1,5 +1,0 @@
-use Rattle.tap_watch_runs.proofs.HeldAnew.{answers_at_rest}
-use Rattle.tap_watch_runs.proofs.law.held_at_rest_law.Goals as goal
-
-pub returns : goal.returns
-returns c = answers_at_rest

@@ -1,5 +1,0 @@
-use Rattle.tap_watch_runs.proofs.HeldAnew.{move_keeps_answers}
-use Rattle.tap_watch_runs.proofs.law.held_moves_law.Goals as goal
-
-pub returns : goal.returns
-returns c = move_keeps_answers
