@@ -1,4 +1,4 @@
--- The command that reads the words: four options, each with one value.
+-- The command that reads the words: five options, each with one value.
 use Rattle.std.specs.Prelude.{List, codes, Some, true}
 use Rattle.clap.specs.Words.{App, Kinds, Rule, Text, fault_of, new_app, new_rule, with_rule}
 use Rattle.clap.specs.declared.builder.ArgAction.TheVariants.{Set}
@@ -12,8 +12,9 @@ bare_node_app = record (new_app (codes "tapestry_node")) { top = record (new_app
 
 unfoldable pub node_app : App
 node_app =
-    with_rule (with_rule (with_rule (with_rule bare_node_app
-    (option_rule (codes "base"))) (option_rule (codes "digits"))) (option_rule (codes "width"))) (option_rule (codes "name"))
+    with_rule (with_rule (with_rule (with_rule (with_rule bare_node_app
+    (option_rule (codes "base"))) (option_rule (codes "digits"))) (option_rule (codes "width"))) (option_rule (codes "name")))
+    (option_rule (codes "members"))
 
 -- why the command refuses the words; nothing if it takes them
 unfoldable pub faults_of_node_words : List Text → Kinds

@@ -38,6 +38,14 @@ abbrev pub node_asked_in_rows : List Row → Option Asked
 node_asked_in_rows rows =
     option_and_then (λ p. option_map (λ name. record { settings = p; name = name }) (name_in_rows p rows)) (settings_in_rows rows)
 
+-- the file of members that the command has found in the words
+abbrev pub members_file_in_rows : List Row → Option Text
+members_file_in_rows rows = first_of (codes "members") rows
+
+-- The file of members that words name which the command takes.
+unfoldable pub members_file_by : List Text → Option Text
+members_file_by words = members_file_in_rows (matches_of node_app words)
+
 -- nothing, if the command refuses them
 abbrev pub node_asked_unless : Kinds → List Row → Option Asked
 node_asked_unless [] rows = node_asked_in_rows rows

@@ -1,8 +1,8 @@
-ghost use Rattle.std.specs.Prelude.{◌≡◌, ◌≢◌, map, IfOk, IfSome, Err, ok_or};
+ghost use Rattle.std.specs.Prelude.{◌≡◌, ◌≢◌, map, option_map, IfOk, IfSome, Err, None, ok_or};
 ghost use Rattle.std.specs.String.{string_bytes};
 ghost use Rattle.clap.specs.Words.{first_of, found_of, rows_of};
 ghost use Rattle.tap_name.specs.Name.{IsName};
-ghost use Rattle.tap_host_line.specs.Words.{byte_in, name_in_rows, node_asked_by, node_asked_in_rows};
+ghost use Rattle.tap_host_line.specs.Words.{byte_in, members_file_by, members_file_in_rows, name_in_rows, node_asked_by, node_asked_in_rows};
 
 use crate::command::matches;
 use clap::ArgMatches;
@@ -55,11 +55,38 @@ pub fn read_words(alloc: Global, words: &[String]) -> Result<Asked, WordsRefusal
     ensures value { result ≢ Err WordsRefusal.NoMemory → result ≡ ok_or (node_asked_by (map string_bytes words.now)) WordsRefusal.Usage }
     ensures name { IfOk result (λ asked. IsName asked.settings asked.name) }
 {
+    let matches = accepted(alloc, words)?;
+    match asked_in(&matches) {
+        Some(asked) => Ok(asked),
+        None => Err(WordsRefusal::Usage),
+    }
+}
+
+/// The file that names the members with which the node begins, as the words name it: `None` exactly if they name none.
+///
+/// Words are refused as `read_words` refuses them.
+///
+/// Rule: docs/NETWORK.md, "The process of a node".
+pub fn members_file<'a>(alloc: Global, words: &'a [String]) -> Result<Option<&'a str>, WordsRefusal>
+    ensures value { IfOk result (λ file. option_map (λ f. f.now) file ≡ members_file_by (map string_bytes words.entry.now)) }
+    ensures accepted { IfOk result (λ _. node_asked_by (map string_bytes words.entry.now) ≢ None) }
+    ensures refused { result ≡ Err WordsRefusal.Usage → node_asked_by (map string_bytes words.entry.now) ≡ None }
+{
+    let matches = accepted(alloc, words)?;
+    match asked_in(&matches) {
+        Some(_) => Ok(matches.get_str("members")),
+        None => Err(WordsRefusal::Usage),
+    }
+}
+
+// What the command finds in the words that it takes.
+fn accepted<'a>(alloc: Global, words: &'a [String]) -> Result<ArgMatches<'a>, WordsRefusal>
+    ensures asked { IfOk result (λ m. node_asked_in_rows (rows_of (found_of m)) ≡ node_asked_by (map string_bytes words.entry.now)) }
+    ensures members { IfOk result (λ m. members_file_in_rows (rows_of (found_of m)) ≡ members_file_by (map string_bytes words.entry.now)) }
+    ensures refused { result ≡ Err WordsRefusal.Usage → node_asked_by (map string_bytes words.entry.now) ≡ None }
+{
     match matches(alloc, words) {
-        Ok(matches) => match asked_in(&matches) {
-            Some(asked) => Ok(asked),
-            None => Err(WordsRefusal::Usage),
-        },
+        Ok(matches) => Ok(matches),
         Err(error) => match error.kind() {
             ErrorKind::OutOfMemory => Err(WordsRefusal::NoMemory),
             _ => Err(WordsRefusal::Usage),

@@ -20,7 +20,7 @@ fn bare_command<'a>(alloc: Global) -> Command<'a>
     Command::new(alloc, "tapestry_node").no_binary_name(true)
 }
 
-// The command: four options.
+// The command: five options.
 fn command<'a>(alloc: Global) -> Result<Command<'a>, AllocError>
     ensures { IfOk result (λ c. app_of c ≡ node_app) }
 {
@@ -28,7 +28,8 @@ fn command<'a>(alloc: Global) -> Result<Command<'a>, AllocError>
         .arg(option_arg(alloc, "base"))?
         .arg(option_arg(alloc, "digits"))?
         .arg(option_arg(alloc, "width"))?
-        .arg(option_arg(alloc, "name"))
+        .arg(option_arg(alloc, "name"))?
+        .arg(option_arg(alloc, "members"))
 }
 
 // What the command finds in the words, or why it refuses them.

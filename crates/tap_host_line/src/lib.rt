@@ -15,7 +15,7 @@ mod reading;
 mod verb;
 mod why;
 
-pub use asked::{Asked, WordsRefusal, read_words};
+pub use asked::{Asked, WordsRefusal, members_file, read_words};
 pub use line::{Line, Start};
 pub use memory::NoMemory;
 pub use put::{put_ack, put_begun, put_count, put_news, put_packet, put_refused, put_status};
