@@ -206,7 +206,7 @@ impl Printer {
         }
     }
 
-    #[inline(never)]
+    #[inline(always)]
     pub(crate) fn add_packet<K: Sink>(&mut self, sink: &mut K, packet: u32, frame: u32, ack: bool)
         ensures { Prints (K.state sink.old) (K.state sink.new)
             (line (packet_line packet frame ack)) self.old self.new }
@@ -243,7 +243,7 @@ impl Printer {
         self.push(b"\n");
     }
 
-    #[inline(never)]
+    #[inline(always)]
     pub(crate) fn add_arrived<K: Sink>(&mut self, sink: &mut K, packet: u32)
         ensures { Prints (K.state sink.old) (K.state sink.new)
             (line (number_after (codes "arrived ") packet)) self.old self.new }
