@@ -336,8 +336,25 @@ impl Ledger {
         ensures spare { self.new.spare ≡ self.old.spare }
         ensures err { OnErr result (self.new ≡ self.old) }
     {
-        self.log.reserve(self.made + 1)?;
+        if self.made <= self.room {
+            return self.remark_past_room(item);
+        }
         self.log.push_reserved(item);
+        self.made -= 1;
+        Ok(())
+    }
+
+    // Adds a remark, for which room is made first.
+    #[inline(never)]
+    fn remark_past_room(&mut self, item: Record) -> Result<(), NoMemory>
+        requires { is_added item ≡ true }
+        ensures records { self.new.records ≡ self.old.records }
+        ensures ok { OnOk result (self.new.added ≡ self.old.added ++ remark_after self.old.records item ∷ []) }
+        ensures spare { self.new.spare ≡ self.old.spare }
+        ensures err { OnErr result (self.new ≡ self.old) }
+    {
+        self.make_room(self.room + 1)?;
+        self.remark_reserved(item);
         Ok(())
     }
 
