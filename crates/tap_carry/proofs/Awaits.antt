@@ -8,6 +8,7 @@ use Rattle.std.proofs.lemmas.List.Elements.{All-filter, All-push, All-tail, filt
 use Rattle.std.proofs.lemmas.List.Folds.{list_any-append}
 use Rattle.std.proofs.lemmas.List.Kept.{AllPairs-filter}
 use Rattle.std.proofs.lemmas.List.Quantifiers.{all_pairs_push}
+use Rattle.std.proofs.lemmas.List.Sums.{count_by-le-length, length-filter}
 use Rattle.tap_carry.specs.declared.outbox.Await.{Await}
 use Rattle.tap_carry.specs.Inbox.{has_pair}
 use Rattle.tap_carry.specs.Names.{is_name, is_same, number_of}
@@ -184,6 +185,27 @@ pub none-awaits : (ways : Pairs) (sent : List Await) → length ways ≡ 0 → [
 none-awaits [] [] none = refl
 none-awaits [] (a ∷ sent) none = none-awaits [] sent none
 none-awaits (way ∷ ways) sent none = absurd (omega (arith, none))
+
+-- no more awaits than was sent
+awaits-most : (ways : Pairs) (sent : List Await) → length (awaits_of sent ways) ≤ length sent
+awaits-most ways sent = omega (arith, length-filter (is_among ways) sent, count_by-le-length (is_among ways) sent)
+
+-- all that was sent awaits if as much does
+pub awaits-all : (ways : Pairs) (sent : List Await) → length (awaits_of sent ways) ≡ length sent → awaits_of sent ways ≡ sent
+awaits-all ways [] size = refl
+awaits-all ways (a ∷ sent) size = by (awaits-all ways sent) (is_among ways a) refl
+  where
+    by : (length (awaits_of sent ways) ≡ length sent → awaits_of sent ways ≡ sent)
+        → (b : Bool) → is_among ways a ≡ b → awaits_of (a ∷ sent) ways ≡ a ∷ sent
+    by rest true e =
+        let fewer : length (a ∷ awaits_of sent ways) ≡ length (a ∷ sent) =
+        sym (ap (λ b. length (cond b (a ∷ awaits_of sent ways) (awaits_of sent ways))) e) ∙ size in
+        let size_is : length (awaits_of sent ways) ≡ length sent = omega (arith, fewer) in
+        rw e (ap (λ (l : List Await). a ∷ l) (rest size_is))
+    by rest false e =
+        let same : length (awaits_of sent ways) ≡ length (a ∷ sent) =
+        sym (ap (λ b. length (cond b (a ∷ awaits_of sent ways) (awaits_of sent ways))) e) ∙ size in
+        absurd (omega (arith, same, awaits-most ways sent))
 
 -- ---- an outbox
 

@@ -140,6 +140,10 @@ impl Outbox {
         ensures all { OnOk result (list.new.items ≡ list.old.items ++ self.now.awaits) }
         ensures err { OnErr result (list.new.items ≡ list.old.items) }
     {
+        if self.ways.len() == self.sent.len() {
+            list.extend_from_slice(&self.sent)?;
+            return Ok(());
+        }
         list.reserve(self.ways.len())?;
         for item in &self.sent {
             if is_among(&self.ways, item) {
