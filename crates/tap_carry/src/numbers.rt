@@ -6,6 +6,9 @@ use crate::memory::NoMemory;
 use indexmap::IndexMap;
 use tap_name::Name;
 
+// For the numbers of so many names room is made at first.
+const NAMES_AT_FIRST: usize = 32;
+
 /// The number of a name, and the place where it is kept.
 #[derive(Clone, Copy)]
 pub(crate) struct Kept {
@@ -50,6 +53,7 @@ pub(crate) fn keep(
             *kept = number;
         }
         None => {
+            make_first_room(numbers)?;
             let _ = numbers.insert(name, number)?;
         }
     }
@@ -65,7 +69,18 @@ pub(crate) fn next_number(numbers: &mut IndexMap<Name, u32>, name: Name) -> Resu
         (if is_name name x then number_of numbers.old.entries name + 1 else number_of numbers.old.entries x)) }
     ensures err { OnErr result (numbers.new.entries ≡ numbers.old.entries) }
 {
+    make_first_room(numbers)?;
     let last = numbers.entry(name)?.or_insert(0);
     *last += 1;
     Ok(*last)
+}
+
+// Makes room for some names at once, if none has a number yet.
+fn make_first_room(numbers: &mut IndexMap<Name, u32>) -> Result<(), NoMemory>
+    ensures { numbers.new.entries ≡ numbers.old.entries }
+{
+    if numbers.is_empty() {
+        numbers.reserve(NAMES_AT_FIRST)?;
+    }
+    Ok(())
 }
