@@ -1,7 +1,7 @@
-ghost use Rattle.std.specs.Prelude.{◌≡◌, ◌+◌, ◌≤◌, ◌<◌, ◌++◌, [], map, AllPairs, IsTrue, if◌then◌else◌, IfOk, OnOk};
+ghost use Rattle.std.specs.Prelude.{◌≡◌, ◌+◌, ◌≤◌, ◌<◌, ◌++◌, [], map, AllPairs, IsTrue, if◌then◌else◌, IfOk, OnOk, None};
 ghost use Rattle.std.specs.List.{IsDistinct};
 ghost use Rattle.std.specs.List.Sorted.{IsPermutation};
-ghost use Rattle.std.specs.Map.{keys_of};
+ghost use Rattle.std.specs.Map.{keys_of, lookup};
 ghost use Rattle.tap_carry.specs.Names.{is_name};
 ghost use Rattle.tap_carry.specs.Outbox.{awaits_one, last_to, most_frames};
 ghost use Rattle.tap_packets.specs.Matching.{IsAckedAt, SendsFrom, data_packet_of};
@@ -117,6 +117,23 @@ fn send_from(
     if let Some(outbox) = boxes.get_mut(&from) {
         return Ok(outbox.send(to, frame)?);
     }
+    send_first(alloc, boxes, from, to, frame)
+}
+
+// A node without an outbox sends a frame. Its outbox is made.
+#[inline(never)]
+fn send_first(
+    alloc: Global,
+    boxes: &mut IndexMap<Name, Outbox>,
+    from: Name,
+    to: Name,
+    frame: u32,
+) -> Result<u32, NoMemory>
+    requires none { lookup (is_name from) boxes.old.entries ≡ None }
+    requires few { frame < most_frames }
+    ensures number { IfOk result (λ seq. seq ≡ last_to (outbox_in boxes.old.entries from) to + 1) }
+    ensures after { OnOk result (SendsFrom (outbox_in boxes.old.entries) (outbox_in boxes.new.entries) from to frame) }
+{
     let mut outbox = Outbox::new(alloc);
     let seq = outbox.send(to, frame)?;
     let _ = boxes.insert(from, outbox)?;

@@ -1,6 +1,6 @@
-use Rattle.std.proofs.Common.{None, Some, is_some, ap, sym, ◌∙◌, subst}
+use Rattle.std.proofs.Common.{Some, is_some, ap, sym}
 use Rattle.tap_packets.specs.Matching.{no_frames}
-use Rattle.tap_boxes.proofs.Lookups.{IsUpdated, box-found, sends-in}
+use Rattle.tap_boxes.proofs.Lookups.{box-found, sends-in}
 use Rattle.tap_boxes.proofs.outboxes.send_from.Goals as goal
 
 pub returns-in-Some-clause-after : goal.returns-in-Some-clause-after
@@ -9,11 +9,3 @@ returns-in-Some-clause-after c =
     c.in-Some.outbox.now c.send.new.self
     (box-found no_frames c.args.boxes.now.entries c.args.from (Some c.in-Some.outbox.now) (sym c.in-Some.ensures.value))
     ((c.get_mut.follows.holds c.send.new.self).3 (ap is_some (sym c.in-Some.ensures.value))).0 c.in_ok-send.ensures.after
-
-pub returns-clause-after : goal.returns-clause-after
-returns-clause-after c =
-    sends-in c.args.boxes.now.entries c.insert.new.self.entries c.args.from c.args.to c.args.frame c.new-outbox.result c.send-2.new.self
-    (box-found no_frames c.args.boxes.now.entries c.args.from None (sym c.in_default.ensures.value) ∙ sym c.new-outbox.ensures)
-    (subst (λ m. IsUpdated m.entries c.insert.new.self.entries c.args.from c.send-2.new.self) c.get_mut.follows.holds-at-none
-    c.in_ok-insert.ensures.updates.0)
-    c.in_ok-seq.ensures.after

@@ -1,7 +1,7 @@
-use Rattle.std.proofs.Common.{None, Some, is_some, not, ap, sym, ◌∙◌, subst}
+use Rattle.std.proofs.Common.{Some, is_some, not, ap, sym, ◌∙◌}
 use Rattle.tap_carry.specs.Arrivals.{no_arrivals}
 use Rattle.tap_carry.specs.Inbox.{has_arrived}
-use Rattle.tap_boxes.proofs.Lookups.{IsUpdated, arrives-in, box-found}
+use Rattle.tap_boxes.proofs.Lookups.{arrives-in, box-found}
 use Rattle.tap_boxes.proofs.inboxes.Inboxes.arrived.Goals as goal
 
 pub returns-in-Some-clause-first : goal.returns-in-Some-clause-first
@@ -16,11 +16,3 @@ returns-in-Some-clause-after c = rw (← c.self.view_is)
     c.in-Some.inbox.now c.arrived.new.self
     (box-found no_arrivals c.self.inside.boxes.entries c.args.name (Some c.in-Some.inbox.now) (sym c.in-Some.ensures.value))
     ((c.get_mut.follows.holds c.arrived.new.self).3 (ap is_some (sym c.in-Some.ensures.value))).0 c.in_ok-arrived.ensures.after)
-
-pub returns-clause-after : goal.returns-clause-after
-returns-clause-after c = rw (← c.self.view_is)
-    (arrives-in c.self.inside.boxes.entries c.insert.new.self.entries c.args.name c.args.from c.args.seq c.new-inbox.result c.arrived-2.new.self
-    (box-found no_arrivals c.self.inside.boxes.entries c.args.name None (sym c.in_default.ensures.value) ∙ sym c.new-inbox.ensures.value)
-    (subst (λ m. IsUpdated m.entries c.insert.new.self.entries c.args.name c.arrived-2.new.self) c.get_mut.follows.holds-at-none
-    c.in_ok-insert.ensures.updates.0)
-    c.in_ok-first.ensures.after)
