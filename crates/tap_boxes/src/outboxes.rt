@@ -89,7 +89,10 @@ impl Outboxes {
         ensures all { IfOk result (λ packets. IsPermutation (packets_kept self.now) packets.items) }
         ensures sorted { IfOk result (λ packets. AllPairs (λ a b. a.frame ≤ b.frame) packets.items) }
     {
+        // No effect at run time. The proof reads from this call that no two outboxes have one name.
+        let _ = self.boxes.len();
         let mut packets = Vec::new(alloc);
+        packets.reserve(self.awaiting as usize)?;
         let mut list = Vec::new(alloc);
         for (name, outbox) in &self.boxes {
             list.clear();

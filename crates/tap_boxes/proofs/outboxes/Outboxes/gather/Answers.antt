@@ -21,7 +21,7 @@ one_more all done after boxes rest name box split added before =
 
 pub loop-name-init : goal.loop-name-init
 loop-name-init c =
-    rw (← c.self.view_is, c.new-packets.ensures.items, c.into_iter-name-iterator.ensures.into_iter_gives.0) refl
+    rw (← c.self.view_is, c.reserve.ensures.items, c.new-packets.ensures.items, c.into_iter-name-iterator.ensures.into_iter_gives.0) refl
 
 pub loop-name-preserved : goal.loop-name-preserved
 loop-name-preserved c =
