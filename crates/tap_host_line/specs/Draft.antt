@@ -1,10 +1,6 @@
 -- The room in which a line is put together.
 use Rattle.std.specs.Prelude.{ℕ}
 
--- for so many bytes there is room
-abbrev pub most_drafted : ℕ
-most_drafted = 576
-
 -- a name has at most so many digits, which is the limit of `AreWithinLimits` in `tap_name`
 abbrev pub most_name_digits : ℕ
 most_name_digits = 40

@@ -1,7 +1,7 @@
 ghost use Rattle.std.specs.Prelude.{◌≡◌, ◌≤◌, ◌+◌, ◌*◌, ◌++◌, [], length, decimal};
 ghost use Rattle.hex.specs.Hex.{encode_lower};
 ghost use Rattle.tap_name.specs.Name.{text_of_name};
-ghost use Rattle.tap_host_line.specs.Draft.{most_drafted, most_name_digits, most_number_digits};
+ghost use Rattle.tap_host_line.specs.Draft.{most_name_digits, most_number_digits};
 
 use itoa::Buffer;
 use std::marker::Model;
@@ -10,36 +10,38 @@ use tap_name::{Name, print_digits, text_of_digit};
 // Nearly all frames have at most so many bytes; these are read and printed at once, without a list of their own.
 pub(crate) const FEW_BYTES: usize = 256;
 
-// There is room for the line of a packet with such a frame, which has a word, a name, a number, three spaces and its end besides.
-const ROOM: usize = 2 * FEW_BYTES + 64;
+// There is room for a word, a name, a number, three spaces and the end of a line.
+pub(crate) const SHORT: usize = 64;
+
+// And for the line of a packet with a frame of few bytes.
+pub(crate) const LONG: usize = 2 * FEW_BYTES + SHORT;
 
 // A name has at most so many digits.
 const MOST_NAME_DIGITS: usize = 40;
 
 // A line that is put together in a room on the stack, so that all of it is added at once. Contracts see its bytes.
 #[derive(Drop)]
-pub(crate) struct Draft {
+pub(crate) struct Draft<const ROOM: usize> {
     // So many bytes are there.
     len: usize,
     // They stand in the first places.
     room: [u8; ROOM],
 }
 
-impl Model for Draft {
+impl<const ROOM: usize> Model for Draft<ROOM> {
     ghost use Rattle.std.specs.Prelude.{◌≤◌, List, ℕ, take};
-    ghost use Rattle.tap_host_line.specs.Draft.{most_drafted};
 
     ghost Value = { List ℕ };
 
     ghost view = { λ d. take d.len d.room };
 
-    ghost invariant = { λ d. d.len ≤ most_drafted };
+    ghost invariant = { λ d. d.len ≤ ROOM };
 }
 
-impl Draft {
+impl<const ROOM: usize> Draft<ROOM> {
     // Nothing is there.
     #[inline(always)]
-    pub(crate) fn new() -> Draft
+    pub(crate) fn new() -> Draft<ROOM>
         ensures { result ≡ [] }
     {
         Draft {
@@ -59,18 +61,19 @@ impl Draft {
     // Adds bytes for which there is room.
     #[inline(always)]
     pub(crate) fn push(&mut self, bytes: &[u8])
-        requires { length self.old + length bytes.now ≤ most_drafted }
+        requires { length self.old + length bytes.now ≤ ROOM }
         ensures text { self.new ≡ self.old ++ bytes.now }
         ensures len { length self.new ≡ length self.old + length bytes.now }
     {
         let end = self.len + bytes.len();
-        self.room[self.len..end].copy_from_slice(bytes);
+        let room = &mut self.room[..];
+        room[self.len..end].copy_from_slice(bytes);
         self.len = end;
     }
 
     // Adds a name, a byte for each digit. All places are printed at once, and the first of them taken.
     pub(crate) fn push_name(&mut self, name: &Name)
-        requires { length self.old + most_name_digits ≤ most_drafted }
+        requires { length self.old + most_name_digits ≤ ROOM }
         ensures text { self.new ≡ self.old ++ text_of_name name.now }
         ensures len { length self.new ≤ length self.old + most_name_digits }
     {
@@ -78,16 +81,14 @@ impl Draft {
         let digits = digits.as_slice();
         let mut places = [0; MOST_NAME_DIGITS];
         places[..digits.len()].copy_from_slice(digits);
-        print_digits(
-            &places,
-            &mut self.room[self.len..self.len + MOST_NAME_DIGITS],
-        );
+        let room = &mut self.room[..];
+        print_digits(&places, &mut room[self.len..self.len + MOST_NAME_DIGITS]);
         self.len += digits.len();
     }
 
     // Adds a number in decimal.
     pub(crate) fn push_number(&mut self, number: u32)
-        requires { length self.old + most_number_digits ≤ most_drafted }
+        requires { length self.old + most_number_digits ≤ ROOM }
         ensures text { self.new ≡ self.old ++ decimal number }
         ensures len { length self.new ≤ length self.old + most_number_digits }
     {
@@ -97,12 +98,13 @@ impl Draft {
 
     // Adds bytes in hexadecimal.
     pub(crate) fn push_hex(&mut self, bytes: &[u8])
-        requires { length self.old + 2 * length bytes.now ≤ most_drafted }
+        requires { length self.old + 2 * length bytes.now ≤ ROOM }
         ensures text { self.new ≡ self.old ++ encode_lower bytes.now }
         ensures len { length self.new ≡ length self.old + 2 * length bytes.now }
     {
         let end = self.len + 2 * bytes.len();
-        print_hex(bytes, &mut self.room[self.len..end]);
+        let room = &mut self.room[..];
+        print_hex(bytes, &mut room[self.len..end]);
         self.len = end;
     }
 }

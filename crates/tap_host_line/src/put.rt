@@ -3,7 +3,7 @@ ghost use Rattle.hex.specs.Hex.{encode_lower};
 ghost use Rattle.tap_name.specs.Name.{text_of_name};
 ghost use Rattle.tap_host_line.specs.Texts.{text_of_ack, text_of_begun, text_of_count, text_of_lookup_server, text_of_news, text_of_packet, text_of_refused, text_of_status};
 
-use crate::draft::{Draft, FEW_BYTES};
+use crate::draft::{Draft, FEW_BYTES, LONG, SHORT};
 use crate::memory::NoMemory;
 use crate::why::Why;
 use itoa::Buffer;
@@ -16,7 +16,7 @@ use tap_node_common::News;
 pub fn put_packet(out: &mut Vec<u8>, to: &Name, seq: u32, frame: &[u8]) -> Result<(), NoMemory>
     ensures { OnOk result (out.new.items ≡ out.old.items ++ text_of_packet to.now seq frame.now) }
 {
-    let mut line = Draft::new();
+    let mut line = Draft::<LONG>::new();
     line.push(b"packet ");
     line.push_name(to);
     line.push(b" ");
@@ -38,7 +38,7 @@ pub fn put_packet(out: &mut Vec<u8>, to: &Name, seq: u32, frame: &[u8]) -> Resul
 pub fn put_ack(out: &mut Vec<u8>, to: &Name, seq: u32) -> Result<(), NoMemory>
     ensures { OnOk result (out.new.items ≡ out.old.items ++ text_of_ack to.now seq) }
 {
-    let mut line = Draft::new();
+    let mut line = Draft::<SHORT>::new();
     line.push(b"ack ");
     line.push_name(to);
     line.push(b" ");
@@ -179,7 +179,7 @@ fn put_text(out: &mut Vec<u8>, text: &[u8]) -> Result<(), NoMemory>
 fn put_name(out: &mut Vec<u8>, name: &Name) -> Result<(), NoMemory>
     ensures { OnOk result (out.new.items ≡ out.old.items ++ text_of_name name.now) }
 {
-    let mut text = Draft::new();
+    let mut text = Draft::<SHORT>::new();
     text.push_name(name);
     put_text(out, text.text())
 }
@@ -192,7 +192,7 @@ fn put_hex(out: &mut Vec<u8>, bytes: &[u8]) -> Result<(), NoMemory>
     let mut done = 0;
     while done < bytes.len() {
         let end = bytes.len().min(done + FEW_BYTES);
-        let mut text = Draft::new();
+        let mut text = Draft::<LONG>::new();
         text.push_hex(&bytes[done..end]);
         put_text(out, text.text())?;
         done = end;

@@ -5,12 +5,12 @@ use Rattle.tap_host_line.proofs.Hexes.{few_small}
 use Rattle.tap_host_line.proofs.draft.Draft.push_name.Goals as goal
 
 pub print_digits-requires-clause-below : goal.print_digits-requires-clause-below
-print_digits-requires-clause-below c =
+print_digits-requires-clause-below g c =
     let front = subst (All (λ digit. digit < 16)) (sym (c.copy_from_slice.ensures.after ∙ c.as_slice-digits.ensures.value)) c.as_slice-digits.ensures.digits in
     few_small c.copy_from_slice.new.self (length c.as_slice-digits.result.now) most_name_digits front
 
 pub returns-clause-text : goal.returns-clause-text
-returns-clause-text c =
+returns-clause-text g c =
     let digits = c.as_slice-digits.result.now in
     let printed =
     few_printed c.args.name.now digits c.copy_from_slice.new.self (drop (length digits) (replicate most_name_digits 0)) c.print_digits.new.text
