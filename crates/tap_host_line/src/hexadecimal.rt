@@ -2,6 +2,7 @@ ghost use Rattle.std.specs.Prelude.{◌≡◌, ◌<◌, ◌≤◌, ◌*◌, All,
 ghost use Rattle.std.specs.Bool.{OnTrue};
 ghost use Rattle.hex.specs.Hex.{decode_of};
 ghost use Rattle.tap_name.specs.Digits.{digit_of_text};
+ghost use Rattle.tap_name.specs.Packed.{joined};
 ghost use Rattle.tap_host_line.specs.Line.{frame_of_word};
 
 use crate::draft::FEW_BYTES;
@@ -9,6 +10,9 @@ use crate::memory::NoMemory;
 use hex::FromHexError;
 use std::alloc::Global;
 use tap_name::{put_joined, text_of_digit};
+
+// So many bytes are read at once.
+const AT_ONCE: usize = 32;
 
 // The value of a digit, and 16 if the byte is none. It is made by numbers alone, without a branch, since many are made at once.
 #[inline(always)]
@@ -35,19 +39,63 @@ fn take_digits(text: &[u8], values: &mut [u8]) -> bool
     worst < 16
 }
 
-// The bytes that so few digits spell, if none is a capital letter. All places are put together at once, and the first of them taken.
-fn few_bytes(alloc: Global, text: &[u8], count: usize) -> Result<Option<Vec<u8>>, NoMemory>
+// Takes the values of digits, and answers whether each byte is one. The last of them are taken together, with some that were taken before, so
+// that none is taken by itself unless all are few.
+#[inline(always)]
+fn take_all_digits(text: &[u8], values: &mut [u8]) -> bool
+    requires { length values.old ≡ length text.now }
+    ensures all { OnTrue result (All (λ value. value < 16) values.new) }
+    ensures values { values.new ≡ map digit_of_text text.now }
+{
+    if text.len() < AT_ONCE {
+        return take_digits(text, values);
+    }
+    let whole = text.len() / AT_ONCE * AT_ONCE;
+    let last = text.len() - AT_ONCE;
+    let are_first = take_digits(&text[..whole], &mut values[..whole]);
+    let are_last = take_digits(&text[last..], &mut values[last..]);
+    are_first && are_last
+}
+
+// Puts the bytes of digits into places, of which there are a whole number of times so many as are put at once.
+#[inline(always)]
+fn put_blocks(values: &[u8], places: &mut [u8], blocks: usize)
+    requires places { length places.old ≡ AT_ONCE * blocks }
+    requires values { length values.now ≡ 2 * length places.old }
+    requires digits { All (λ value. value < 16) values.now }
+    ensures value { places.new ≡ joined values.now }
+    ensures len { length places.new ≡ AT_ONCE * blocks }
+{
+    for block in 0..blocks {
+        let start = AT_ONCE * block;
+        put_joined(
+            &values[2 * start..2 * start + 2 * AT_ONCE],
+            &mut places[start..start + AT_ONCE],
+        );
+    }
+}
+
+// Puts the bytes that so few digits spell into a list, and answers whether none is a capital letter. All places of the last block are put together,
+// and those taken that are wanted.
+fn put_few(text: &[u8], count: usize, bytes: &mut Vec<u8>) -> Result<bool, NoMemory>
     requires len { length text.now ≡ 2 * count }
     requires few { count ≤ FEW_BYTES }
-    ensures { IfOk result (λ bytes. IfSome bytes (λ found. decode_of text.now ≡ Ok found.items)) }
+    ensures { IfOk result (λ are_digits. OnTrue are_digits (decode_of text.now ≡ Ok bytes.new.items)) }
 {
     let mut values = [0; 2 * FEW_BYTES];
-    if !take_digits(text, &mut values[..text.len()]) {
-        return Ok(None);
+    if !take_all_digits(text, &mut values[..text.len()]) {
+        return Ok(false);
     }
-    let mut places = [0; FEW_BYTES];
-    put_joined(&values, &mut places);
-    Ok(Some(Vec::from_slice(alloc, &places[..count])?))
+    let blocks = (count + AT_ONCE - 1) / AT_ONCE;
+    bytes.clear();
+    bytes.resize(AT_ONCE * blocks, 0)?;
+    put_blocks(
+        &values[..2 * AT_ONCE * blocks],
+        bytes.as_mut_slice(),
+        blocks,
+    );
+    bytes.truncate(count);
+    Ok(true)
 }
 
 // Puts the bytes that digits spell, and answers whether all are digits, none a capital letter.
@@ -85,10 +133,14 @@ fn usual_bytes(alloc: Global, text: &[u8]) -> Result<Option<Vec<u8>>, NoMemory>
         return Ok(None);
     }
     let count = text.len() / 2;
-    if count <= FEW_BYTES {
-        few_bytes(alloc, text, count)
+    if count > FEW_BYTES {
+        return many_bytes(alloc, text, count);
+    }
+    let mut bytes = Vec::new(alloc);
+    if put_few(text, count, &mut bytes)? {
+        Ok(Some(bytes))
     } else {
-        many_bytes(alloc, text, count)
+        Ok(None)
     }
 }
 
