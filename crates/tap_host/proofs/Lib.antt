@@ -2,6 +2,7 @@ mod Asking
 mod CastsMet
 mod Entering
 mod Finding
+mod Heads
 mod Kept
 mod Letters
 mod Serving

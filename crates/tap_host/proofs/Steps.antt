@@ -39,33 +39,32 @@ or_nothing : (b : Bool) → (b || false) ≡ b
 or_nothing true = refl
 or_nothing false = refl
 
-module _ (old new : IntakeValue) (from : List ℕ) (seq : ℕ)
-    (enters : (x : List ℕ) (k : ℕ) → has_taken new x k ≡ (has_taken old x k || is_same from seq x k)) where
-  pub taken_now : has_taken new ≡ (λ x k. has_taken old x k || is_same from seq x k)
+module _ (was : Name → ℕ → Bool) (new : IntakeValue) (from : List ℕ) (seq : ℕ)
+    (enters : (x : List ℕ) (k : ℕ) → has_taken new x k ≡ (was x k || is_same from seq x k)) where
+  pub taken_now : has_taken new ≡ (λ x k. was x k || is_same from seq x k)
   taken_now = λ i x k. enters x k i
 
   pub there : has_taken new from seq ≡ true
-  there = enters from seq ∙ by (has_taken old from seq)
+  there = enters from seq ∙ by (was from seq)
     where
       by : (b : Bool) → (b || is_same from seq from seq) ≡ true
       by true = refl
       by false = pair-itself from seq
 
   -- a number that was taken before
-  pub taken_again : has_taken old from seq ≡ true → has_taken new ≡ has_taken old
+  pub taken_again : was from seq ≡ true → has_taken new ≡ was
   taken_again before = λ i x k. (enters x k ∙ by x k (is_same from seq x k) refl) i
     where
-      by : (x : List ℕ) (k : ℕ) (same : Bool) → is_same from seq x k ≡ same → (has_taken old x k || same) ≡ has_taken old x k
-      by x k false is = or_nothing (has_taken old x k)
+      by : (x : List ℕ) (k : ℕ) (same : Bool) → is_same from seq x k ≡ same → (was x k || same) ≡ was x k
+      by x k false is = or_nothing (was x k)
       by x k true is =
           let one = one_pair from seq x k is in
-          let known : has_taken old x k ≡ true =
-          subst (λ n. has_taken old x n ≡ true) one.1 (subst (λ y. has_taken old y seq ≡ true) one.0 before) in
+          let known : was x k ≡ true = subst (λ n. was x n ≡ true) one.1 (subst (λ y. was y seq ≡ true) one.0 before) in
           ap (λ b. b || true) known ∙ sym known
 
   -- one that is given back
-  pub taken_back : (back : IntakeValue) → has_taken old from seq ≡ false
-      → ((x : List ℕ) (k : ℕ) → has_taken back x k ≡ (has_taken new x k && not (is_same from seq x k))) → has_taken back ≡ has_taken old
+  pub taken_back : (back : IntakeValue) → was from seq ≡ false
+      → ((x : List ℕ) (k : ℕ) → has_taken back x k ≡ (has_taken new x k && not (is_same from seq x k))) → has_taken back ≡ was
   taken_back back before gives = λ i x k. (gives x k ∙ ap (λ b. b && not (is_same from seq x k)) (enters x k) ∙ by x k (is_same from seq x k) refl) i
     where
       plain : (b : Bool) → ((b || false) && true) ≡ b
@@ -76,13 +75,12 @@ module _ (old new : IntakeValue) (from : List ℕ) (seq : ℕ)
       none true = refl
       none false = refl
 
-      by : (x : List ℕ) (k : ℕ) (same : Bool) → is_same from seq x k ≡ same → ((has_taken old x k || same) && not same) ≡ has_taken old x k
-      by x k false is = plain (has_taken old x k)
+      by : (x : List ℕ) (k : ℕ) (same : Bool) → is_same from seq x k ≡ same → ((was x k || same) && not same) ≡ was x k
+      by x k false is = plain (was x k)
       by x k true is =
           let one = one_pair from seq x k is in
-          let unknown : has_taken old x k ≡ false =
-          subst (λ n. has_taken old x n ≡ false) one.1 (subst (λ y. has_taken old y seq ≡ false) one.0 before) in
-          none (has_taken old x k) ∙ sym unknown
+          let unknown : was x k ≡ false = subst (λ n. was x n ≡ false) one.1 (subst (λ y. was y seq ≡ false) one.0 before) in
+          none (was x k) ∙ sym unknown
 
 -- ---- what is sent
 
@@ -210,6 +208,14 @@ module _ {E : Type 0} (answer : Result Going E) (step : Stepped) (now : HostSeen
       (turned_after host' now turn before front between after going texts
       (subst (λ h. TakesStep (turned h turn between) now [] after going) same takes))) given
 
+-- a step that is that of a frame whose number was entered
+pub entered_as : {E : Type 0} (answer : Result Going E) (h entered : HostSeen) (step : Stepped) (now : HostSeen) (number : ℕ) (from : List ℕ) (seq : ℕ)
+    (front : List ℕ) (outcome : Outcome) (before after : List ℕ) → step ≡ after_step h (with_frame_taken h from seq) number front outcome
+    → entered ≡ with_frame_taken h from seq → IfOk answer (TakesStep (after_step h entered number front outcome) now before after)
+    → IfOk answer (TakesStep step now before after)
+entered_as answer h entered step now number from seq front outcome before after is same given =
+    subst (λ s. IfOk answer (TakesStep s now before after)) (ap (λ x. after_step h x number front outcome) same ∙ sym is) given
+
 pub goes_as : (step : Stepped) (now : HostSeen) (before after : List ℕ) (host : HostSeen) (text : List ℕ) → step ≡ host_goes_on host text → now ≡ host
     → after ≡ before ++ text → TakesStep step now before after On
 goes_as step now before after host text is same texts =
@@ -223,7 +229,7 @@ module _ (a : ActorValue) (m : MailValue) (i : IntakeValue) (begun : Bool) where
 
   -- a packet
   module _ (number : ℕ) (from : List ℕ) (seq : ℕ) (frame : List ℕ) where
-    abbrev stepped : Stepped
+    abbrev pub stepped : Stepped
     stepped = after_step seen_host (with_frame_taken seen_host from seq) number (text_of_ack from seq) (take_outcome a.node frame)
 
     abbrev unless_taken : Bool → Bool → Stepped

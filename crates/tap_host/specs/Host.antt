@@ -149,6 +149,10 @@ at_number host number from seq frame =
     else if not (has_room_left (host_node host)) then full host number
     else after_step host (with_frame_taken host from seq) number (text_of_ack from seq) (take_outcome (host_node host) frame)
 
+-- the number of a frame was entered that hadn't been taken before
+abbrev pub IsEntered : HostSeen → HostSeen → Name → ℕ → Type 0
+IsEntered before host from seq = (before.taken from seq ≡ false) × (host ≡ with_frame_taken before from seq)
+
 -- a packet by the head of its frame
 abbrev pub at_head : HostSeen → ℕ → Name → ℕ → List ℕ → Result Head HeadFault → Stepped
 at_head host number from seq frame (Ok head) =

@@ -1,4 +1,5 @@
-ghost use Rattle.std.specs.Prelude.{◌≡◌, ◌≤◌, true, length, All, Contains, IfOk, IsTrue};
+ghost use Rattle.std.specs.Bool.{OnTrue};
+ghost use Rattle.std.specs.Prelude.{◌≡◌, ◌≤◌, true, false, length, All, Contains, IfOk, IsTrue};
 ghost use Rattle.tap_name.specs.Distinct.{AreDistinct};
 ghost use Rattle.tap_name.specs.Name.{IsName};
 ghost use Rattle.tap_rule.specs.Node.{joiner, member_at_rest, settings_of};
@@ -80,6 +81,14 @@ impl Actor {
         ensures { result.now ≡ self.now.node }
     {
         &self.node
+    }
+
+    // Whether the node takes a step: there is room for one, and memory wasn't refused to it.
+    pub(crate) fn is_ready(&self) -> bool
+        ensures room { OnTrue result (has_room_left self.now.node ≡ true) }
+        ensures runs { OnTrue result (self.now.node.ended ≡ false) }
+    {
+        self.node.room() && self.node.status() != NodeStatus::Ended
     }
 
     // Takes a frame, as bytes.

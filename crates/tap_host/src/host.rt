@@ -1,16 +1,20 @@
-ghost use Rattle.std.specs.Prelude.{◌≡◌, ◌≢◌, ◌+◌, ◌≤◌, ◌++◌, [], length, IfOk, OnOk};
+ghost use Rattle.std.specs.Prelude.{◌≡◌, ◌≢◌, ◌+◌, ◌≤◌, ◌++◌, true, [], length, IfOk, IsTrue, OnOk};
 ghost use Rattle.tap_name.specs.Name.{IsName};
 ghost use Rattle.tap_rule.specs.Node.{joiner};
 ghost use Rattle.tap_carry.specs.Outbox.{most_frames};
 ghost use Rattle.tap_wire.specs.Reading.{head_of};
-ghost use Rattle.tap_node.specs.Node.{running};
+ghost use Rattle.tap_node.specs.Node.{has_room_left, running};
+ghost use Rattle.tap_node.specs.Outcome.{take_outcome};
 ghost use Rattle.tap_host_line.specs.Line.{AreLineMembers, IsNodeLine, IsNodeStart};
-ghost use Rattle.tap_host.specs.Host.{HostSeen, TakesStep, at_head, at_members, at_number, at_start, full, host_line, host_seen, host_settings, new_host, refused, status_word, step_of_line, text_of_host, turned, why_of};
+ghost use Rattle.tap_host_line.specs.Texts.{text_of_ack};
+ghost use Rattle.tap_host.specs.Intake.{has_taken};
+ghost use Rattle.tap_host.specs.Host.{HostSeen, IsEntered, TakesStep, after_step, at_head, at_members, at_number, at_start, full, host_line, host_seen, host_settings, new_host, refused, status_word, step_of_line, text_of_host, turned, why_of};
 
 use crate::actor::Actor;
 use crate::intake::Intake;
 use crate::mail::Mail;
 use crate::memory::{NoMemory, only_memory};
+use crate::sender::stands_as_sender;
 use std::alloc::Global;
 use std::marker::Model;
 use tap_host_line::{
@@ -157,8 +161,31 @@ impl Host {
         self.turned(out, turn)
     }
 
-    // A packet has come. Its frame is taken once.
+    // A packet has come. Its frame is taken once. If its sender stands where a frame has its sender, the node reads the whole frame, and
+    // its head isn't read before.
     fn packet(
+        &mut self,
+        out: &mut Vec<u8>,
+        number: u64,
+        from: Name,
+        seq: u32,
+        frame: &[u8],
+    ) -> Result<Going, NoMemory>
+        requires { 1 ≤ seq }
+        ensures { IfOk result (TakesStep (at_head (host_seen self.old) number from seq frame.now
+            (head_of (host_settings (host_seen self.old)) frame.now)) (host_seen self.new) out.old.items out.new.items) }
+    {
+        if self.actor.is_ready() && stands_as_sender(&self.actor.settings(), &from, frame) {
+            if self.intake.enter(from, seq)? {
+                return self.entered(out, number, from, seq, frame);
+            }
+        }
+        self.by_head(out, number, from, seq, frame)
+    }
+
+    // A packet has come, of which the head is read.
+    #[inline(never)]
+    fn by_head(
         &mut self,
         out: &mut Vec<u8>,
         number: u64,
@@ -179,7 +206,7 @@ impl Host {
         self.numbered(out, number, from, seq, frame)
     }
 
-    // A frame has come from its sender. If the node refuses it, it is as if it hadn't come.
+    // A frame has come from its sender.
     fn numbered(
         &mut self,
         out: &mut Vec<u8>,
@@ -199,6 +226,25 @@ impl Host {
         if !self.actor.node().room() {
             return full(out, number);
         }
+        self.entered(out, number, from, seq, frame)
+    }
+
+    // A frame has come whose number was entered for it. If the node refuses it, it is as if it hadn't come.
+    #[inline(always)]
+    fn entered(
+        &mut self,
+        out: &mut Vec<u8>,
+        number: u64,
+        from: Name,
+        seq: u32,
+        frame: &[u8],
+    ) -> Result<Going, NoMemory>
+        requires room { IsTrue (has_room_left self.old.actor.node) }
+        requires entered { has_taken self.old.intake from seq ≡ true }
+        ensures { (before : HostSeen) → IsEntered before (host_seen self.old) from seq
+            → IfOk result (TakesStep (after_step before (host_seen self.old) number (text_of_ack from seq)
+            (take_outcome self.old.actor.node frame.now)) (host_seen self.new) out.old.items out.new.items) }
+    {
         match self.actor.take(frame) {
             Ok(turn) => {
                 if !self.mail.has_room(turn.sent.len()) {

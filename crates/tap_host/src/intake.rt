@@ -41,6 +41,7 @@ impl Intake {
     }
 
     // Takes a number of a sender, from 1, and answers whether it is taken for the first time.
+    #[inline(always)]
     pub(crate) fn enter(&mut self, from: Name, seq: u32) -> Result<bool, NoMemory>
         requires { 1 ≤ seq }
         ensures first { IfOk result (λ first. first ≡ not (has_taken self.old from seq)) }

@@ -15,6 +15,7 @@ mod lines;
 mod mail;
 mod memory;
 mod run;
+mod sender;
 mod starting;
 mod status;
 
