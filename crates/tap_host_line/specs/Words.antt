@@ -42,7 +42,7 @@ node_asked_in_rows rows =
 abbrev pub members_file_in_rows : List Row → Option Text
 members_file_in_rows rows = first_of (codes "members") rows
 
--- The file of members that words name which the command takes.
+-- The file of members that the words name, if the command takes them.
 unfoldable pub members_file_by : List Text → Option Text
 members_file_by words = members_file_in_rows (matches_of node_app words)
 

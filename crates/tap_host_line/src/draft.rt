@@ -10,10 +10,10 @@ use tap_name::{Name, print_digits, text_of_digit};
 // Nearly all frames have at most so many bytes; these are read and printed at once, without a list of their own.
 pub(crate) const FEW_BYTES: usize = 256;
 
-// There is room for a word, a name, a number, three spaces and the end of a line.
+// So many bytes have room for a word, a name, a number, three spaces and the end of a line.
 pub(crate) const SHORT: usize = 64;
 
-// And for the line of a packet with a frame of few bytes.
+// So many have room for the line of a packet with a frame of few bytes.
 pub(crate) const LONG: usize = 2 * FEW_BYTES + SHORT;
 
 // A name has at most so many digits.

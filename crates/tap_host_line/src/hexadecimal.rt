@@ -11,7 +11,7 @@ use hex::FromHexError;
 use std::alloc::Global;
 use tap_name::{put_joined, text_of_digit};
 
-// So many bytes are read at once.
+// So many digits are read at once, and so many bytes put.
 const AT_ONCE: usize = 32;
 
 // The value of a digit, and 16 if the byte is none. It is made by numbers alone, without a branch, since many are made at once.
@@ -57,7 +57,7 @@ fn take_all_digits(text: &[u8], values: &mut [u8]) -> bool
     are_first && are_last
 }
 
-// Puts the bytes of digits into places, of which there are a whole number of times so many as are put at once.
+// Puts the bytes of digits into places, block by block; the places are a whole number of blocks.
 #[inline(always)]
 fn put_blocks(values: &[u8], places: &mut [u8], blocks: usize)
     requires places { length places.old ≡ AT_ONCE * blocks }
@@ -75,8 +75,8 @@ fn put_blocks(values: &[u8], places: &mut [u8], blocks: usize)
     }
 }
 
-// Puts the bytes that so few digits spell into a list, and answers whether none is a capital letter. All places of the last block are put together,
-// and those taken that are wanted.
+// Puts the bytes that so few digits spell into a list. The answer is yes only if all are digits, none a capital letter. All places of the last
+// block are put together; those that aren't wanted are dropped.
 fn put_few(text: &[u8], count: usize, bytes: &mut Vec<u8>) -> Result<bool, NoMemory>
     requires len { length text.now ≡ 2 * count }
     requires few { count ≤ FEW_BYTES }

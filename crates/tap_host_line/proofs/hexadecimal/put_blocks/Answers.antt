@@ -1,5 +1,5 @@
 use borrow.Rule.Slice.PartMut.{same_len_mid}
-use Rattle.std.proofs.Common.{◌≡◌, ◌∙◌, ℕ, List, ◌+◌, ◌-◌, ◌*◌, ◌++◌, ap, ap₂, arith, drop, length, take}
+use Rattle.std.proofs.Common.{◌≡◌, ◌∙◌, ℕ, List, ◌+◌, ◌-◌, ◌*◌, ◌++◌, ap, arith, drop, take}
 use Rattle.tap_name.specs.Packed.{joined}
 use Rattle.tap_host_line.proofs.Hexes.{next_joined}
 use Rattle.tap_host_line.proofs.hexadecimal.put_blocks.Goals as goal
