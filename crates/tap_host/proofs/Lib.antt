@@ -5,6 +5,7 @@ mod Finding
 mod Heads
 mod Kept
 mod Letters
+mod Numbered
 mod Serving
 mod Steps
 mod TakenStays

@@ -1,5 +1,5 @@
 -- Names, and pairs of a name and a number, as keys: a query finds a key exactly if they are the same.
-use Rattle.std.proofs.Common.{◌≡◌, ℕ, true, false, Bool, nat_eq, ◌&&◌, List, refl, sym, ◌∙◌, true≢false}
+use Rattle.std.proofs.Common.{◌≡◌, ℕ, true, nat_eq, ◌&&◌, List, refl, sym}
 use Rattle.std.specs.Cmp.Lexicographic.{same_text}
 use Rattle.std.proofs.lemmas.Cmp.{nat_list_eq_equiv}
 use Rattle.std.proofs.lemmas.Bool.{and_parts, eqb-true, eq-eqb}
@@ -17,19 +17,3 @@ one_pair x k y m e = let both = and_parts (is_name x y) (nat_eq k m) e in (same_
 
 pub pair-itself : (x : List ℕ) (k : ℕ) → is_same x k x k ≡ true
 pair-itself x k = λ i. name-itself x i && eq-eqb k k refl i
-
--- either way round
-pub same-turned : (x : List ℕ) (k : ℕ) (y : List ℕ) (m : ℕ) → is_same x k y m ≡ is_same y m x k
-same-turned x k y m = by (is_same x k y m) refl (is_same y m x k) refl
-  where
-    by : (p : Bool) → is_same x k y m ≡ p → (q : Bool) → is_same y m x k ≡ q → p ≡ q
-    by true e true f = refl
-    by false e false f = refl
-    by true e false f =
-        let one = one_pair x k y m e in
-        let there : is_same y m x k ≡ true = rw (one.0, one.1) (pair-itself y m) in
-        absurd (true≢false (sym there ∙ f))
-    by false e true f =
-        let one = one_pair y m x k f in
-        let there : is_same x k y m ≡ true = rw (one.0, one.1) (pair-itself x k) in
-        absurd (true≢false (sym there ∙ e))

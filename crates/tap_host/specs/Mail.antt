@@ -1,7 +1,7 @@
 -- The letters of a node: frames that it has sent, and that await their acknowledgement.
 --
 -- Rule: docs/PROTOCOL.md, "Packets".
-use Rattle.std.specs.Prelude.{◌≡◌, ℕ, ◌+◌, not, cond, if◌then◌else◌, Bool, List, [], ◌∷◌, ◌++◌, filter, Option, Result, Ok, Err, unwrap_or}
+use Rattle.std.specs.Prelude.{ℕ, ◌+◌, ◌<◌, nat_eq, not, if◌then◌else◌, Bool, List, [], ◌∷◌, ◌++◌, filter, All, AllPairs, Result, Ok, Err, unwrap_or}
 use Rattle.std.specs.List.{flat_map}
 use Rattle.std.specs.Map.{lookup}
 use Rattle.tap_name.specs.Name.{Name}
@@ -10,7 +10,7 @@ use Rattle.tap_wire.specs.declared.fault.HeadFault.{HeadFault}
 use Rattle.tap_wire.specs.declared.frame.Head.{Head}
 use Rattle.tap_wire.specs.Reading.{head_of}
 use Rattle.tap_carry.specs.declared.outbox.Await.{Await}
-use Rattle.tap_carry.specs.Names.{is_name, is_same, is_same_way, number_of}
+use Rattle.tap_carry.specs.Names.{is_name, is_same, number_of}
 use Rattle.tap_host_line.specs.Texts.{text_of_packet}
 
 -- a frame that awaits its acknowledgement: the receiver, its number there, and its bytes
@@ -37,18 +37,18 @@ mail_seen mail = record { letters = mail.letters; last = number_of mail.last; se
 abbrev pub empty_mail : MailSeen
 empty_mail = record { letters = []; last = λ to. 0; sent = 0 }
 
--- the bytes that are kept for a receiver and a number
-abbrev pub frame_at : List ((List ℕ × ℕ) × List ℕ) → Name → ℕ → List ℕ
-frame_at frames to seq = unwrap_or (lookup (is_same_way (to, seq)) frames) []
+-- the bytes that are kept by a frame's number
+abbrev pub frame_at : List (ℕ × List ℕ) → ℕ → List ℕ
+frame_at frames number = unwrap_or (lookup (nat_eq number) frames) []
 
--- the frames have this at one receiver and number, or none, and are else as they were
-abbrev pub AreUpdated : List ((List ℕ × ℕ) × List ℕ) → List ((List ℕ × ℕ) × List ℕ) → Name → ℕ → Option (List ℕ) → Type 0
-AreUpdated before after to seq frame = (q : List ℕ × ℕ)
-    → lookup (is_same_way q) after ≡ cond (is_same_way (to, seq) q) frame (lookup (is_same_way q) before)
+-- frames are kept in the order of their numbers, each below the next number
+pub record AreNumbered (frames : List (ℕ × List ℕ)) (next : ℕ) : Type 0 where
+  pub ascending : AllPairs (λ a b. a.0 < b.0) frames
+  pub below : All (λ a. a.0 < next) frames
 
 -- the letter of what awaits
-abbrev pub letter_in : List ((List ℕ × ℕ) × List ℕ) → Await → Letter
-letter_in frames item = record { to = item.to; seq = item.seq; frame = frame_at frames item.to item.seq }
+abbrev pub letter_in : List (ℕ × List ℕ) → Await → Letter
+letter_in frames item = record { to = item.to; seq = item.seq; frame = frame_at frames item.frame }
 
 -- a frame is sent: it awaits with the number after the last one for its receiver
 abbrev pub mail_sent : MailSeen → Name → List ℕ → MailSeen

@@ -1,10 +1,9 @@
-ghost use Rattle.std.specs.Prelude.{◌≡◌, ◌+◌, ◌<◌, ◌≤◌, ◌++◌, length, nat_le, None, OnOk, Some};
+ghost use Rattle.std.specs.Prelude.{◌≡◌, ◌+◌, ◌<◌, ◌≤◌, ◌++◌, length, nat_le, AllPairs, OnOk};
 ghost use Rattle.tap_carry.specs.Outbox.{most_frames};
 ghost use Rattle.tap_host_line.specs.Texts.{text_of_packet};
-ghost use Rattle.tap_host.specs.Mail.{AreUpdated, empty_mail, letter_in, mail_acked, mail_seen, mail_sent, posts, text_of_letters};
+ghost use Rattle.tap_host.specs.Mail.{empty_mail, letter_in, mail_acked, mail_seen, mail_sent, posts, text_of_letters};
 
 use crate::memory::NoMemory;
-use indexmap::IndexMap;
 use std::alloc::Global;
 use std::marker::Model;
 use tap_carry::{Await, MOST_FRAMES, Outbox};
@@ -12,13 +11,16 @@ use tap_host_line::put_packet;
 use tap_name::{Name, Settings};
 use tap_wire::{Bytes, decode_head};
 
-// The frames that await their acknowledgement, with their bytes: an outbox, and the bytes by receiver and number. Contracts see the letters
-// that await, in the order in which they were sent, the last number for each receiver, and how many were sent.
+// The frames that await their acknowledgement, with their bytes: an outbox, and the bytes by the numbers of their frames. Contracts see the
+// letters that await, in the order in which they were sent, the last number for each receiver, and how many were sent.
+//
+// Bytes stay in the list until nothing awaits, or until most of them no longer await, when they are left out before more are sent.
 #[derive(Drop)]
 pub(crate) struct Mail {
     alloc: Global,
     outbox: Outbox,
-    frames: IndexMap<(Name, u32), Bytes>,
+    // The number of each frame and its bytes, ascending.
+    frames: Vec<(u32, Bytes)>,
 }
 
 impl Model for Mail {
@@ -28,10 +30,14 @@ impl Model for Mail {
     ghost Value = { MailValue };
 
     ghost view = { λ m. record {
-      letters = map (letter_in m.frames.entries) m.outbox.awaits;
+      letters = map (letter_in m.frames.items) m.outbox.awaits;
       last = m.outbox.last;
       sent = m.outbox.next;
     } };
+
+    ghost use Rattle.tap_host.specs.Mail.{AreNumbered};
+
+    ghost invariant = { λ m. AreNumbered m.frames.items m.outbox.next };
 }
 
 impl Mail {
@@ -42,7 +48,7 @@ impl Mail {
         Mail {
             alloc,
             outbox: Outbox::new(alloc),
-            frames: IndexMap::new(alloc),
+            frames: Vec::new(alloc),
         }
     }
 
@@ -71,6 +77,7 @@ impl Mail {
         ensures { OnOk result ((mail_seen self.new, out.new.items)
             ≡ posts settings.now (mail_seen self.old, out.old.items) frames.items) }
     {
+        self.leave_out()?;
         for frame in frames {
             if let Ok(head) = decode_head(settings, frame.as_slice()) {
                 self.send(out, head.to, frame)?;
@@ -88,9 +95,11 @@ impl Mail {
     {
         // Each frame that awaits has a number that was given before.
         let _given = self.outbox.awaiting();
-        let seq = self.outbox.send(to, self.outbox.next())?;
+        let number = self.outbox.next();
+        let seq = self.outbox.send(to, number)?;
         put_packet(out, &to, seq, frame.as_slice())?;
-        keep(&mut self.frames, to, seq, frame)
+        self.frames.push((number, frame))?;
+        Ok(())
     }
 
     // Takes the acknowledgement of a number from its receiver.
@@ -98,7 +107,34 @@ impl Mail {
         ensures { mail_seen self.new ≡ mail_acked (mail_seen self.old) from seq }
     {
         let _awaited = self.outbox.acked(from, seq);
-        forget(&mut self.frames, from, seq);
+        self.leave_out_all();
+    }
+
+    // Leaves all bytes out if nothing awaits.
+    fn leave_out_all(&mut self)
+        ensures { self.new ≡ self.old }
+    {
+        if self.outbox.awaiting() == 0 {
+            self.frames.clear();
+        }
+    }
+
+    // Leaves out the bytes that no longer await, if they are most of them.
+    fn leave_out(&mut self) -> Result<(), NoMemory>
+        ensures { OnOk result (self.new ≡ self.old) }
+    {
+        if self.frames.len() / 2 <= self.outbox.awaiting() {
+            return Ok(());
+        }
+        let mut awaits = Vec::new(self.alloc);
+        self.outbox.gather(&mut awaits)?;
+        let mut kept = Vec::new(self.alloc);
+        for item in &awaits {
+            let frame = Bytes::copy_of(self.alloc, frame_of(&self.frames, item))?;
+            kept.push((item.frame, frame))?;
+        }
+        self.frames = kept;
+        Ok(())
     }
 
     // Adds the line of a packet for each letter that awaits.
@@ -115,31 +151,12 @@ impl Mail {
 }
 
 // The bytes of a frame that awaits.
-fn frame_of<'a>(frames: &'a IndexMap<(Name, u32), Bytes>, item: &Await) -> &'a [u8]
-    ensures { result.now ≡ (letter_in frames.now.entries item.now).frame }
+fn frame_of<'a>(frames: &'a [(u32, Bytes)], item: &Await) -> &'a [u8]
+    requires { AllPairs (λ a b. a.0 < b.0) frames.now }
+    ensures { result.now ≡ (letter_in frames.now item.now).frame }
 {
-    match frames.get(&(item.to, item.seq)) {
-        Some(frame) => frame.as_slice(),
-        None => &[],
+    match frames.binary_search_by_key(&item.frame, |kept| kept.0) {
+        Ok(at) => frames[at].1.as_slice(),
+        Err(_) => &[],
     }
-}
-
-// Keeps the bytes of a frame.
-fn keep(
-    frames: &mut IndexMap<(Name, u32), Bytes>,
-    to: Name,
-    seq: u32,
-    frame: Bytes,
-) -> Result<(), NoMemory>
-    ensures { OnOk result (AreUpdated frames.old.entries frames.new.entries to seq (Some frame)) }
-{
-    let _ = frames.insert((to, seq), frame)?;
-    Ok(())
-}
-
-// Lets go of the bytes of a frame, if they are there.
-fn forget(frames: &mut IndexMap<(Name, u32), Bytes>, to: Name, seq: u32)
-    ensures { AreUpdated frames.old.entries frames.new.entries to seq None }
-{
-    let _ = frames.swap_remove(&(to, seq));
 }

@@ -51,6 +51,12 @@ impl From<tap_node::NoMemory> for NoMemory {
     }
 }
 
+impl From<tap_wire::NoMemory> for NoMemory {
+    fn from(_: tap_wire::NoMemory) -> NoMemory {
+        NoMemory
+    }
+}
+
 impl From<NoMemory> for HostStatus {
     ghost from_gives = { λ _ given. given ≡ status.NoMemory };
 

@@ -4,5 +4,5 @@ use Rattle.tap_host.proofs.mail.Mail.put_all.Given as goal
 
 abbrev pub invariant-loop-item : goal.invariant-loop-item
 invariant-loop-item l =
-    l.out.items ++ text_of_letters (map (letter_in l.self-inside.frames.entries) (drop l.item-index l.item-items))
+    l.out.items ++ text_of_letters (map (letter_in l.self-inside.frames.items) (drop l.item-index l.item-items))
     ≡ l.initial.out.items ++ text_of_letters l.self.letters

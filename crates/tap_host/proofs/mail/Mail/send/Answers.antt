@@ -1,9 +1,10 @@
-use Rattle.std.proofs.lemmas.Result.{on_ok_weaker}
-use Rattle.tap_host.proofs.Letters.{sent_mail}
+use Rattle.std.proofs.Common.{◌∙◌, ap}
+use Rattle.tap_host.specs.Mail.{mail_seen}
+use Rattle.tap_host.proofs.Letters.{mail_of, sent_mail}
 use Rattle.tap_host.proofs.mail.Mail.send.Goals as goal
 
 pub returns-clause-mail : goal.returns-clause-mail
 returns-clause-mail c = rw (← c.self.view_is)
-    (on_ok_weaker c.keep.result
-    (sent_mail c.self.inside.outbox c.send.new.self c.self.inside.frames.entries c.keep.new.frames.entries c.args.to c.in_ok-seq.seq c.next.result
-    c.args.frame c.awaiting-given.ensures.valid c.next.ensures.next c.in_ok-seq.ensures.after c.in_ok-seq.ensures.number) c.keep.ensures)
+    (ap (λ frames. mail_seen (mail_of c.send.new.self frames)) c.in_ok-push.ensures.items
+    ∙ sent_mail c.self.inside.outbox c.send.new.self c.self.inside.frames.items c.args.to c.next-number.result c.args.frame
+    c.awaiting-given.ensures.valid c.self.invariant c.next-number.ensures.next c.in_ok-seq.ensures.after)
