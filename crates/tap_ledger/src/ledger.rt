@@ -1,4 +1,4 @@
-ghost use Rattle.std.specs.Prelude.{◌≡◌, ◌==◌, ◌≤◌, ◌+◌, ◌-◌, max, [], ◌∷◌, ◌++◌, true, false, if◌then◌else◌, length, nat_eq, option_copied, option_map, position, slice_get, IfOk, IfSome, IsOk, OnOk, OnErr, None, Some};
+ghost use Rattle.std.specs.Prelude.{◌≡◌, ℕ, ◌==◌, ◌≤◌, ◌+◌, ◌-◌, max, [], ◌∷◌, ◌++◌, true, false, if◌then◌else◌, length, nat_eq, option_copied, option_map, position, slice_get, IfOk, IfSome, IsOk, OnOk, OnErr, None, Some};
 ghost use Rattle.tap_name.specs.Names.{has_name};
 ghost use Rattle.tap_log.specs.declared.record.Record.TheVariants.{Begin, Sent};
 ghost use Rattle.tap_log.specs.Counts.{cast_count, resent_count, sent_count, ticket_count};
@@ -549,6 +549,19 @@ impl Ledger {
         ensures at { IfSome result (λ f. slice_get (woven self.now.records self.now.added) f.record_place ≡ Some (Sent f.number f.bytes.now)) }
     {
         let flight = self.frames.frame_at(place)?;
+        frame_of(self.log.as_slice(), flight)
+    }
+
+    /// The outstanding frame of this number, as `flight_at` gives it at its place; `None` exactly if that frame isn't outstanding.
+    ///
+    /// Rule: docs/FORMATS.md, "Groups and moments".
+    pub fn flight_of(&self, number: u32) -> Option<OutstandingFrame<'_>>
+        ensures number { (place : ℕ) → position (nat_eq number) (outstanding self.now.records) ≡ Some place →
+            option_map (λ f. f.number) result ≡ slice_get (outstanding self.now.records) place }
+        ensures bytes { (place : ℕ) → position (nat_eq number) (outstanding self.now.records) ≡ Some place →
+            option_map (λ f. f.bytes.now) result ≡ bytes_at self.now.records place }
+    {
+        let flight = self.frames.frame_of(number)?;
         frame_of(self.log.as_slice(), flight)
     }
 

@@ -1,5 +1,5 @@
 -- Which frames are outstanding: those that were sent and not yet taken.
-use Rattle.std.specs.Prelude.{ℕ, ◌==◌, ◌+◌, ◌-◌, ◌<◌, zero, suc, List, [], ◌∷◌, ◌++◌, All, AllPairs, Option}
+use Rattle.std.specs.Prelude.{ℕ, ◌==◌, ◌+◌, ◌-◌, ◌<◌, zero, suc, List, [], ◌∷◌, ◌++◌, All, AllPairs, Option, option_and_then, slice_get}
 use Rattle.std.specs.List.{position, remove}
 use Rattle.tap_outstanding.specs.declared.outstanding.Flight.{Flight}
 
@@ -42,6 +42,10 @@ taken_at_place s place = record s { frames = remove s.frames place }
 -- the place of the frame with this number
 abbrev pub place_of_number : List Flight → ℕ → Option ℕ
 place_of_number frames number = position (λ f. f.number == number) frames
+
+-- the frame with this number, if it is outstanding
+abbrev pub frame_of_number : List Flight → ℕ → Option Flight
+frame_of_number frames number = option_and_then (slice_get frames) (place_of_number frames number)
 
 -- the numbers ascend, and each was sent
 pub record AreOutstanding (s : OutstandingValue) : Type 0 where

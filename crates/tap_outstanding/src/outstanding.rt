@@ -1,6 +1,6 @@
 ghost use Rattle.std.specs.Prelude.{◌≡◌, ◌==◌, ◌+◌, ◌-◌, ◌<◌, ◌≤◌, max, [], length, slice_get, if◌then◌else◌, IfOk, OnOk, OnErr, Some, None, is_some};
 ghost use Rattle.std.specs.Option.{option_map_or};
-ghost use Rattle.tap_outstanding.specs.Outstanding.{AreOutstanding, most_sent, place_of_number, sent_with, taken_at_place};
+ghost use Rattle.tap_outstanding.specs.Outstanding.{AreOutstanding, frame_of_number, most_sent, place_of_number, sent_with, taken_at_place};
 
 use crate::levels;
 use crate::memory::NoMemory;
@@ -184,6 +184,21 @@ impl Outstanding {
         let number = number as usize;
         if levels::is_marked(&self.marks, number) {
             Some(levels::rank(&self.marks, &self.sums, number))
+        } else {
+            None
+        }
+    }
+
+    /// The frame with this number, and `None` exactly if that frame isn't outstanding.
+    pub fn frame_of(&self, number: u32) -> Option<Flight>
+        ensures { result ≡ frame_of_number self.now.frames number }
+    {
+        let at = number as usize;
+        if levels::is_marked(&self.marks, at) {
+            Some(Flight {
+                number,
+                record_place: self.records[at],
+            })
         } else {
             None
         }
