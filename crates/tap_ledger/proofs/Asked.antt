@@ -6,7 +6,7 @@ use Rattle.std.proofs.lemmas.Bool.{ne_eqb}
 use Rattle.std.proofs.lemmas.List.Elements.{All-head, All-tail}
 use Rattle.tap_name.specs.Settings.{SettingsValue}
 use Rattle.tap_outstanding.specs.declared.outstanding.Flight.{Flight}
-use Rattle.tap_outstanding.specs.Outstanding.{OutstandingValue, place_of_number}
+use Rattle.tap_outstanding.specs.Outstanding.{OutstandingValue, frame_of_number, place_of_number}
 use Rattle.tap_log.specs.declared.record.Record.{Record}
 use Rattle.tap_log.specs.declared.record.Record.TheVariants.{Sent}
 use Rattle.tap_log.specs.Frames.{bytes_of}
@@ -102,6 +102,12 @@ place_is log whole frames n are =
     ap (λ at. place_within at (length frames.frames)) (prefix_numbers n frames.frames)
     ∙ ap (place_within (prefix_len (λ k. not (nat_eq n k)) (flight_numbers frames.frames))) (sym (numbers_length frames.frames))
     ∙ ap (position (nat_eq n)) are.numbers
+
+-- the frame of a number stands at its place
+pub numbered_there : (log whole : List Record) (frames : OutstandingValue) (n place : ℕ) → AreFlights log whole frames
+    → position (nat_eq n) (outstanding log) ≡ Some place → frame_of_number frames.frames n ≡ slice_get frames.frames place
+numbered_there log whole frames n place are is =
+    ap (option_and_then (slice_get frames.frames)) (place_is log whole frames n are ∙ is)
 
 -- ---- frames
 
