@@ -560,6 +560,7 @@ impl Ledger {
             option_map (λ f. f.number) result ≡ slice_get (outstanding self.now.records) place }
         ensures bytes { (place : ℕ) → position (nat_eq number) (outstanding self.now.records) ≡ Some place →
             option_map (λ f. f.bytes.now) result ≡ bytes_at self.now.records place }
+        ensures none { position (nat_eq number) (outstanding self.now.records) ≡ None → result ≡ None }
     {
         let flight = self.frames.frame_of(number)?;
         frame_of(self.log.as_slice(), flight)

@@ -1,6 +1,6 @@
 use Rattle.std.proofs.Common.{◌≡◌, ◌∙◌, Some, None, nat_eq, ap, sym}
 use Rattle.std.specs.Prelude.{option_and_then, option_map, position, slice_get}
-use Rattle.std.proofs.lemmas.Option.{slice_get-map}
+use Rattle.std.proofs.lemmas.Option.{none-some, slice_get-map}
 use Rattle.tap_outstanding.specs.declared.outstanding.Flight.{Flight}
 use Rattle.tap_log.specs.Reduced.{reduced}
 use Rattle.tap_history.specs.Flights.{bytes_at}
@@ -8,7 +8,7 @@ use Rattle.tap_history.specs.Moments.{outstanding}
 use Rattle.tap_ledger.specs.Flights.{sent_payload}
 use Rattle.tap_ledger.specs.Ledger.{LedgerValue}
 use Rattle.tap_ledger.specs.declared.flights.OutstandingFrame.{OutstandingFrame}
-use Rattle.tap_ledger.proofs.Asked.{bytes_is, flight_sends, flight_there, frame_number, numbered_there, record_bytes}
+use Rattle.tap_ledger.proofs.Asked.{bytes_is, flight_sends, flight_there, frame_number, numbered_there, place_is, record_bytes}
 use Rattle.tap_ledger.proofs.ledger.Ledger.flight_of.Goals as goal
 
 pub returns-in_err-flight-clause-number : goal.returns-in_err-flight-clause-number
@@ -72,3 +72,13 @@ returns-clause-bytes c = λ place at.
     ∙ ap (option_and_then (record_bytes whole)) there
     ∙ bytes_is log whole frames place flights
     ∙ ap (λ (l : LedgerValue). bytes_at l.records place) c.self.view_is
+
+pub returns-clause-none : goal.returns-clause-none
+returns-clause-none c = λ none.
+    let whole = c.self.inside.log.records in
+    let frames = c.self.inside.frames in
+    let gone = ap (λ (l : LedgerValue). position (nat_eq c.args.number) (outstanding l.records)) c.self.view_is ∙ none in
+    let there : Some c.in_ok-flight.flight ≡ None =
+    c.in_ok-flight.ensures ∙ ap (option_and_then (slice_get frames.frames))
+    (place_is (reduced whole) whole frames c.args.number c.self.invariant.kept.flights ∙ gone) in
+    absurd (none-some c.in_ok-flight.flight (sym there))
