@@ -21,3 +21,4 @@ mod Seeing
 mod Damaging
 mod Mapped
 mod TurnRecords
+pub mod NumberPlaces

@@ -288,3 +288,26 @@ failed_still before after read frame is (inr heeds) settings =
 pub if_ok : {A E : Type 0} (P Q : A → Type 0) → ((x : A) → P x → Q x) → (r : Result A E) → IfOk r P → IfOk r Q
 if_ok P Q onward (Ok x) is = onward x is
 if_ok P Q onward (Err e) is = is
+
+-- ---- the outstanding frame with these bytes at a place
+
+module _ (m : Engine) (ready : AreReady m) (place number : ℕ) (at : slice_get (outstanding m.ledger.records) place ≡ Some number)
+    (bytes : List ℕ) (is : Some bytes ≡ bytes_at m.ledger.records place) where
+  abbrev pub frame_there : IsOutstanding m.settings m.ledger.records place
+  frame_there = outstanding_at m ready place (slice_get_within (outstanding m.ledger.records) place number at)
+
+  -- the nodes read it
+  pub frame_read : frame_of m.overlay.settings bytes ≡ Ok frame_there.frame
+  frame_read = ap (λ p. frame_of p bytes) ready.kept.settings ∙ (read_at m.settings m.ledger.records place frame_there bytes is).1
+
+  pub bytes_may : IsOkAnd (frame_of m.overlay.settings bytes) (MayDeliver m.overlay.nodes)
+  bytes_may = subst (λ r. IsOkAnd r (MayDeliver m.overlay.nodes)) (sym frame_read) (may_deliver m ready place frame_there)
+
+  module _ (overlay : OverlayValue) (turn : Turn) (name : List ℕ)
+      (told : IsOkAnd (frame_of m.overlay.settings bytes) (HasDelivered m.overlay.nodes overlay.nodes turn name)) where
+    pub frame_delivered : HasDelivered m.overlay.nodes overlay.nodes turn name frame_there.frame
+    frame_delivered = subst (λ r. IsOkAnd r (HasDelivered m.overlay.nodes overlay.nodes turn name)) frame_read told
+
+    pub frame_taken : overlay.settings ≡ m.overlay.settings
+        → HasTakenAt m (record m { overlay = overlay }) place (record { name = name; turn = turn })
+    frame_taken settings = has_taken_at m (record m { overlay = overlay }) ready place frame_there turn name frame_delivered settings

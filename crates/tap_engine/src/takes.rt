@@ -1,6 +1,6 @@
-ghost use Rattle.std.specs.Prelude.{◌≡◌, ◌<◌, ◌≤◌, ◌∷◌, [], false, slice_get, None};
+ghost use Rattle.std.specs.Prelude.{◌≡◌, ℕ, ◌<◌, ◌≤◌, ◌∷◌, [], true, false, nat_eq, position, slice_get, None, Some};
 ghost use Rattle.tap_log.specs.Counts.{sent_count};
-ghost use Rattle.tap_history.specs.Moments.{outstanding};
+ghost use Rattle.tap_history.specs.Moments.{has_number, outstanding};
 ghost use Rattle.tap_engine.specs.SeenTurns.{turn_records};
 
 use crate::engine::Engine;
@@ -41,6 +41,31 @@ impl Engine {
             return Err(Stop::Refused(Refusal::NoSuchFlight(self.ledger.outstanding())));
         };
         let number = flight.number;
+        let mut turn = Turn::empty(self.alloc);
+        match self.overlay.deliver(&mut turn, flight.bytes) {
+            Ok(name) => self.add_taken(number, &name, turn.sent, &turn.news),
+            Err(refused) => Err(Stop::from(NoMemory::from(refused))),
+        }
+    }
+
+    /// The outstanding frame of this number is taken by its receiver: its group is added, as `deliver` adds it at the frame's place.
+    ///
+    /// `Spent` and `NoMemory` come as there, and `Refused` never comes.
+    ///
+    /// Condition: the frame is outstanding, no refusal is left to be noted, and the log hasn't its end.
+    ///
+    /// Rule: docs/FORMATS.md, "The course of a run".
+    pub fn deliver_number(&mut self, number: u32) -> Result<(), Stop>
+        requires ready { AreReady self.old }
+        requires waits { has_number (outstanding self.old.ledger.records) number ≡ true }
+        ensures leads { (place : ℕ) → position (nat_eq number) (outstanding self.old.ledger.records) ≡ Some place →
+            LeadsTo (takes_number (world_value self.old None false) (slice_get (outstanding self.old.ledger.records) place))
+            self.old result self.new }
+        ensures added { self.new.ledger.added ≡ self.old.ledger.added }
+    {
+        let Some(flight) = self.ledger.flight_of(number) else {
+            unreachable!()
+        };
         let mut turn = Turn::empty(self.alloc);
         match self.overlay.deliver(&mut turn, flight.bytes) {
             Ok(name) => self.add_taken(number, &name, turn.sent, &turn.news),
