@@ -1,4 +1,4 @@
-ghost use Rattle.std.specs.Prelude.{◌≡◌, ◌≢◌, ◌≤◌, ◌↔◌, [], true, false, nat_eq, length, position, option_copied, IfOk, IfSome, IsNone, Err};
+ghost use Rattle.std.specs.Prelude.{◌≡◌, ◌≢◌, ◌≤◌, ◌↔◌, ℕ, [], true, false, nat_eq, length, position, option_copied, IfOk, IfSome, IsNone, Err, Some};
 ghost use Rattle.tap_name.specs.Names.{has_name};
 ghost use Rattle.tap_log.specs.Counts.{ticket_count};
 ghost use Rattle.tap_log.specs.Log.{begun_steps};
@@ -6,7 +6,7 @@ ghost use Rattle.tap_log.specs.Reduced.{is_added, reduced};
 ghost use Rattle.tap_ledger.specs.Woven.{RemarksWithin};
 ghost use Rattle.tap_scenario.specs.Step.{IsStep};
 ghost use Rattle.tap_history.specs.GroupLaws.{IsNumbered};
-ghost use Rattle.tap_history.specs.Moments.{is_still, outstanding};
+ghost use Rattle.tap_history.specs.Moments.{has_number, is_still, outstanding};
 ghost use Rattle.tap_history.specs.Names.{names_of};
 ghost use Rattle.tap_history.specs.StepAsks.{is_start};
 ghost use Rattle.tap_node.specs.Node.{has_room_left};
@@ -207,6 +207,30 @@ impl World {
             return Err(Stop::Ended);
         }
         let answer = self.engine.deliver(place);
+        self.stopped = stops(&answer);
+        answer
+    }
+
+    /// The outstanding frame of this number is taken by its receiver, as `deliver` has it taken at the frame's place.
+    ///
+    /// The answers are those of `deliver`, but that `Refused` never comes.
+    ///
+    /// Condition: the frame is outstanding.
+    ///
+    /// Rule: docs/FORMATS.md, "The course of a run".
+    pub fn deliver_number(&mut self, number: u32) -> Result<(), Stop>
+        requires goes_on { MayGoOn self.old }
+        requires waits { has_number (outstanding self.old.log) number ≡ true }
+        ensures answers { (place : ℕ) → position (nat_eq number) (outstanding self.old.log) ≡ Some place →
+            WorldAnswersAs (deliver_outcome self.old place) self.old result self.new }
+        ensures ended { result ≡ Err Stop.Ended → self.new ≡ self.old }
+        ensures headline { WorldHasHeadline self.new }
+        ensures holders { HoldersAreExactAtRest self.new.log }
+    {
+        if self.stopped {
+            return Err(Stop::Ended);
+        }
+        let answer = self.engine.deliver_number(number);
         self.stopped = stops(&answer);
         answer
     }
