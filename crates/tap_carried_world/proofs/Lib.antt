@@ -1,6 +1,5 @@
 mod Fronts
 mod Indices
-mod Places
 mod RunLogs
 mod NextGroups
 mod NodeRecords

@@ -49,10 +49,7 @@ impl CarriedWorld {
         ensures { TakesFrame scenario.now frame self.old.world result self.new.world self.new.carrier }
     {
         let from = self.world.log().len();
-        let Some(place) = self.world.place_of(frame) else {
-            unreachable!()
-        };
-        self.world.deliver(place)?;
+        self.world.deliver_number(frame)?;
         self.carrier
             .carry_since(&mut self.world, &scenario.settings(), from)
     }
