@@ -7,6 +7,9 @@ use crate::memory::NoMemory;
 // How many counts of a level one count of the next stands for.
 const FAN: usize = 16;
 
+// Sixteen is this power of two.
+const FAN_BITS: u32 = 4;
+
 // How many levels of sums there are.
 const HEIGHT: usize = 7;
 
@@ -66,23 +69,18 @@ pub(crate) fn find_after(marks: &[u8], sums: &[Vec<u32>], low: usize, place: u32
     find(marks, sums, low, place)
 }
 
-// Where a search begins that goes from one number up to another: at the lowest level at which no more than sixteen counts lie between
-// them.
+// Where a search begins that goes from one number up to another: at the lowest level at which few counts lie between them, seventeen at
+// most.
 fn start_of(low: usize, end: usize) -> Start
     requires order { low ≤ end }
     ensures height { result.height ≤ 7 }
     ensures at { result.at ≡ count_at low result.height }
 {
-    let mut at = low;
-    let mut last = end;
-    for height in 0..HEIGHT {
-        if last - at <= FAN {
-            return Start { height, at };
-        }
-        at /= FAN;
-        last /= FAN;
+    let height = (((end - low).max(1).ilog2() / FAN_BITS) as usize).min(HEIGHT);
+    Start {
+        height,
+        at: low >> (FAN_BITS as usize * height),
     }
-    Start { height: HEIGHT, at }
 }
 
 // Steps over counts while as many are left, up to the end at most.
