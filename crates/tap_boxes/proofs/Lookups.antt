@@ -1,5 +1,5 @@
 -- What is found of each name after the box of one name changes.
-use Rattle.std.proofs.Common.{◌≡◌, ℕ, Bool, true, false, List, Option, Some, unwrap_or, ap, sym, ◌∙◌, cond, subst, inl, inr}
+use Rattle.std.proofs.Common.{◌≡◌, ℕ, List, Option, Some, unwrap_or, ap, sym, ◌∙◌, cond, subst, inl, inr}
 use Rattle.std.specs.Map.{lookup}
 use Rattle.std.proofs.lemmas.Bool.{cases_Bool}
 use Rattle.tap_carry.specs.Arrivals.{no_arrivals}

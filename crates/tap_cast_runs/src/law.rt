@@ -119,7 +119,8 @@ pub fn chains_moves_law()
     ensures { MoveKeepsChains }
 {}
 
-/// So it is at each moment of each run from members at rest, whatever its moves are and in whichever order frames are delivered.
+/// What is said of watch lists holds at each moment of each run from members at rest, whatever its moves are and in whichever order frames
+/// are delivered.
 ///
 /// It does nothing: its contract is the law.
 ///

@@ -11,7 +11,7 @@ ghost use Rattle.tap_moves.specs.DepartingMoves.{FrameDeparting, FrameInOrder};
 ghost use Rattle.tap_moves.specs.NoticeMoves.{LeavingInOrder, NoticeInOrder};
 ghost use Rattle.tap_moves.specs.PartMoves.{LeavingKeeps, LeavingSeeks, LeavingSessions, LeavingStamped, LeavingTables, LeavingWords, NoticeKeeps, NoticeSeeks, NoticeSessions, NoticeStamped, NoticeTables, NoticeWords};
 
-/// If the invariant holds, and each node is one that steps keep valid, then after each frame of a join where a rule takes it, but the Done
+/// If the invariant holds, and each node is one that steps keep valid, then after each frame of a join if a rule takes it, but the Done
 /// of a join that was given up, and after each frame of pointers and casts that isn't strange: settled links are to core nodes and pins
 /// to soft ones; who isn't started is known to nobody but its one Seek, and Tells are sound; and if nobody departs, nobody does
 /// afterwards, and no notice is under way.
@@ -164,9 +164,9 @@ pub fn invariant_after_starts()
 {}
 
 /// If the invariant holds, and each node is one that steps keep valid, then after each frame that isn't strange to its receiver, a notice or
-/// another, whatever the status of the receiver, and once a node has started to leave, whoever departs does so in order: each holder is told once, and its slot is filled
-/// by another before the leaver is gone. Once no frame is under way nobody departs, no node leaves, no link is marked, and no notice is
-/// under way.
+/// another, whatever the status of the receiver, and once a node has started to leave, whoever departs does so in order: each holder is told
+/// once, and its slot is filled by another before the leaver is gone. Once no frame is under way nobody departs, no node leaves, no link is
+/// marked, and no notice is under way.
 ///
 /// It does nothing: its contract is the law.
 ///

@@ -177,7 +177,7 @@ pub fn deliveries_from_invariant()
     ensures ended { FrameEnded }
 {}
 
-/// If the invariant holds, and each node is one that steps keep valid, then a frame that is delivered where a rule takes it does one of
+/// If the invariant holds, and each node is one that steps keep valid, then a frame that is delivered, if a rule takes it, does one of
 /// six things with the sessions of joins: one awaits what is sent in place of the frame, one is opened or closed, below another or as the
 /// root of its joiner, or none changes. After it each session awaits each answer once, of sessions that are open, awaits at least one, as
 /// many as its node waits for, and has its place: at a node that may have it open and has opened as many, below another node's; and some

@@ -1,7 +1,7 @@
-//! The steps of which the laws of systems speak are those that the rule of a node makes; and each of them keeps the invariant, whether a
-//! frame is delivered or a node starts something.
+//! The steps of which the laws of systems speak are those that the rule of a node makes; and what of the invariant holds after them.
 //!
-//! No code is here. Each function of `law` states that a step by the rule is such a step, and each of `invariant` what holds after one.
+//! No code is here. Each function of `law` states that a step by the rule is such a step, or what one keeps, and each of `invariant` what
+//! holds after one.
 #![tactic(auto)]
 
 mod invariant;
