@@ -38,7 +38,12 @@ impl Printer {
     }
 
     // Adds the lines of a record. One that the brief text leaves out has one line alone.
-    fn add_lines<K: Sink>(&mut self, sink: &mut K, settings: &Option<Settings>, item: &Record)
+    pub(crate) fn add_lines<K: Sink>(
+        &mut self,
+        sink: &mut K,
+        settings: &Option<Settings>,
+        item: &Record,
+    )
         requires { IsPrintable settings.now item.now }
         ensures { Prints (K.state sink.old) (K.state sink.new)
             (text_of_record Long settings.now item.now) self.old self.new }

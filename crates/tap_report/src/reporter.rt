@@ -1,5 +1,6 @@
 ghost use Rattle.std.specs.Prelude.{◌≡◌, ◌<◌, ◌≤◌, ◌+◌, ◌-◌, ◌↔◌, IsNone, IsTrue, fold, length};
 ghost use Rattle.tap_report.specs.Printer.{Prints};
+ghost use Rattle.tap_report.specs.declared.mode.Mode.TheVariants.{Long};
 ghost use Rattle.tap_report.specs.Reporter.{Finishes, PutsAll, PutsRecord, PutsWriteTheText, kept_after, most_records, new_reporter, settings_after};
 ghost use Rattle.tap_report.specs.Tally.{CountsWithin};
 ghost use Rattle.tap_report.specs.Text.{ArePrintable, BeginsAfter, IsBegin, IsPrintable, IsPrintableLog, text_of_log, texts_after};
@@ -148,10 +149,31 @@ fn print_each<K: Sink>(
     ensures settings { settings.new ≡ fold settings_after settings.old items.now }
     ensures tally { tally.new ≡ fold (kept_after mode) tally.old items.now }
 {
+    if let Mode::Long = mode {
+        print_lines(printer, settings, items, sink);
+        return;
+    }
     for item in items {
         printer.add_record(sink, mode, settings, item);
         keep_settings(settings, item);
         keep_for_summary(tally, mode, item);
+    }
+}
+
+// Prints the lines of records in the long mode, of which nothing is kept for the summary.
+fn print_lines<K: Sink>(
+    printer: &mut Printer,
+    settings: &mut Option<Settings>,
+    items: &[Record],
+    sink: &mut K,
+)
+    requires { ArePrintable settings.old items.now }
+    ensures text { Prints (K.state sink.old) (K.state sink.new) (texts_after Long settings.old items.now) printer.old printer.new }
+    ensures settings { settings.new ≡ fold settings_after settings.old items.now }
+{
+    for item in items {
+        printer.add_lines(sink, settings, item);
+        keep_settings(settings, item);
     }
 }
 
