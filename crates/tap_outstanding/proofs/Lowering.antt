@@ -8,62 +8,62 @@ use Rattle.tap_outstanding.specs.Levels.{IsSummary, level, IsTower, HaveRoom, co
 use Rattle.tap_outstanding.proofs.Sums.{below, below-lt, below-ge, sum-lowered}
 use Rattle.tap_outstanding.proofs.Towers.{summary-count, level-of, level-set_same, level-set_other, level-same, along, index-past, index-count}
 
--- a place is below another among the blocks of sixteen exactly if it is below the first of that block
-below-blocks : (at i : ℕ) → below (at / 16) i ≡ below at (16 * i)
-below-blocks at i = elim (cases_order at (16 * i)) [
-  | inl e ↦ below-ge (at / 16) i (omega arith) ∙ sym (below-ge at (16 * i) (omega arith))
-  | inr (inl lt) ↦ below-lt (at / 16) i (omega arith) ∙ sym (below-lt at (16 * i) lt)
-  | inr (inr gt) ↦ below-ge (at / 16) i (omega arith) ∙ sym (below-ge at (16 * i) (omega arith))
+-- a place is below another among the blocks of eight exactly if it is below the first of that block
+below-blocks : (at i : ℕ) → below (at / 8) i ≡ below at (8 * i)
+below-blocks at i = elim (cases_order at (8 * i)) [
+  | inl e ↦ below-ge (at / 8) i (omega arith) ∙ sym (below-ge at (8 * i) (omega arith))
+  | inr (inl lt) ↦ below-lt (at / 8) i (omega arith) ∙ sym (below-lt at (8 * i) lt)
+  | inr (inr gt) ↦ below-ge (at / 8) i (omega arith) ∙ sym (below-ge at (8 * i) (omega arith))
 ]
 
 -- one less at a place, if there is one
 abbrev pub one_less : List ℕ → ℕ → List ℕ
 one_less counts at = set counts at (get_or counts at 0 - 1)
 
--- a count that is within a whole sixteen is lowered with the sum of it
-summary-within : (lower upper : List ℕ) (at : ℕ) → IsSummary lower upper → at / 16 < length upper → 1 ≤ get_or lower at 0
-    → IsSummary (one_less lower at) (one_less upper (at / 16))
+-- a count that is within a whole eight is lowered with the sum of it
+summary-within : (lower upper : List ℕ) (at : ℕ) → IsSummary lower upper → at / 8 < length upper → 1 ≤ get_or lower at 0
+    → IsSummary (one_less lower at) (one_less upper (at / 8))
 summary-within lower upper at s block some =
-    let size : length upper ≡ length lower / 16 = s.size in
+    let size : length upper ≡ length lower / 8 = s.size in
     let within : at < length lower = omega arith in
-    let above : 1 ≤ get_or upper (at / 16) 0 = omega (arith, summary-count lower upper at s block) in
+    let above : 1 ≤ get_or upper (at / 8) 0 = omega (arith, summary-count lower upper at s block) in
     record {
       size = simp length-set size;
       sums = λ i le. omega (
         arith,
         s.sums i (simp length-set at le),
-        sum-lowered lower at (16 * i) within some,
-        sum-lowered upper (at / 16) i block above,
+        sum-lowered lower at (8 * i) within some,
+        sum-lowered upper (at / 8) i block above,
         below-blocks at i,
       );
     }
 
 -- and one that isn't, without
-summary-beyond : (lower upper : List ℕ) (at : ℕ) → IsSummary lower upper → length upper ≤ at / 16 → at < length lower
+summary-beyond : (lower upper : List ℕ) (at : ℕ) → IsSummary lower upper → length upper ≤ at / 8 → at < length lower
     → 1 ≤ get_or lower at 0 → IsSummary (one_less lower at) upper
 summary-beyond lower upper at s beyond within some =
-    let size : length upper ≡ length lower / 16 = s.size in
+    let size : length upper ≡ length lower / 8 = s.size in
     record {
       size = simp length-set size;
       sums = λ i le. omega (
         arith,
         s.sums i le,
-        sum-lowered lower at (16 * i) within some,
-        below-ge at (16 * i) (omega arith),
+        sum-lowered lower at (8 * i) within some,
+        below-ge at (8 * i) (omega arith),
       );
     }
 
 summary-lowered : (lower upper : List ℕ) (at : ℕ) → IsSummary lower upper → (at < length lower → 1 ≤ get_or lower at 0)
-    → IsSummary (one_less lower at) (one_less upper (at / 16))
-summary-lowered lower upper at s some = elim (cases_order (at / 16) (length upper)) [
+    → IsSummary (one_less lower at) (one_less upper (at / 8))
+summary-lowered lower upper at s some = elim (cases_order (at / 8) (length upper)) [
   | inl e ↦ beyond (omega arith)
   | inr (inl block) ↦ let size = s.size in summary-within lower upper at s block (some (omega arith))
   | inr (inr past) ↦ beyond (omega arith)
 ]
   where
-    beyond : length upper ≤ at / 16 → IsSummary (one_less lower at) (one_less upper (at / 16))
+    beyond : length upper ≤ at / 8 → IsSummary (one_less lower at) (one_less upper (at / 8))
     beyond le =
-        let same : one_less upper (at / 16) ≡ upper = set_past upper (at / 16) (get_or upper (at / 16) 0 - 1) le in
+        let same : one_less upper (at / 8) ≡ upper = set_past upper (at / 8) (get_or upper (at / 8) 0 - 1) le in
         elim (cases_order at (length lower)) [
           | inl e ↦ along _ _ _ _ (set_past lower at (get_or lower at 0 - 1) (omega arith)) same s
           | inr (inl within) ↦ along _ _ _ _ refl same (summary-beyond lower upper at s le within (some within))
@@ -79,7 +79,7 @@ pub record IsLoweredUpTo {A : Type 0} (start now : List (Vec ℕ A)) (number m a
   pub room : (room : ℕ) → HaveRoom start room → HaveRoom now room
 
 module _ {A : Type 0} (start : List (Vec ℕ A)) (number : ℕ) where
-  pub nothing-lowered : IsLoweredUpTo start start number 0 (number / 16)
+  pub nothing-lowered : IsLoweredUpTo start start number 0 (number / 8)
   nothing-lowered = record {
     place = refl;
     size = refl;
@@ -97,15 +97,15 @@ module _ {A : Type 0} (start : List (Vec ℕ A)) (number : ℕ) where
 
   pub one-more-lowered : (now : List (Vec ℕ A)) (m at : ℕ) (d w : Vec ℕ A) → IsLoweredUpTo start now number m at
       → m < length now → w.items ≡ one_less (get_or now m d).items at → vec_len w ≡ vec_len (get_or now m d)
-      → vec_capacity w ≡ vec_capacity (get_or now m d) → IsLoweredUpTo start (set now m w) number (m + 1) (at / 16)
+      → vec_capacity w ≡ vec_capacity (get_or now m d) → IsLoweredUpTo start (set now m w) number (m + 1) (at / 8)
   one-more-lowered now m at d w s within items len capacity =
       let e : suc m ≡ m + 1 = omega arith in
       let was = next-level now m at d s within in
       let size = s.size in
       let place = s.place in
       let same = s.rest m d (omega arith) in
-      subst (λ (n : ℕ). IsLoweredUpTo start (set now m w) number n (at / 16)) e (record {
-        place = ap (λ (n : ℕ). n / 16) place;
+      subst (λ (n : ℕ). IsLoweredUpTo start (set now m w) number n (at / 8)) e (record {
+        place = ap (λ (n : ℕ). n / 8) place;
         size = length-set now m w ∙ size;
         done = λ j lt. elim (cases_order j m) [
           | inl here ↦ subst (λ (k : ℕ). level [] (set now m w) (suc k) ≡ one_less (level [] start (suc k)) (count_at number (suc k))) (sym here)
@@ -123,11 +123,11 @@ module _ {A : Type 0} (start : List (Vec ℕ A)) (number : ℕ) where
 
 module _ {A : Type 0} (marks : List ℕ) (start now : List (Vec ℕ A)) (number m at : ℕ) (tower : IsTower marks start)
     (mark : get_or marks number 0 ≡ 1) (s : IsLoweredUpTo start now number m at) where
-  some-at : (j : ℕ) → j < 8 → count_at number j < length (level marks start j) → 1 ≤ get_or (level marks start j) (count_at number j) 0
+  some-at : (j : ℕ) → j < 11 → count_at number j < length (level marks start j) → 1 ≤ get_or (level marks start j) (count_at number j) 0
   some-at j lt within = index-count marks start tower number j (omega arith) lt within
 
   -- each level is lowered, be it that a level has no count of the number or that all are done
-  lowered-at : (m < 7 → length (level marks start (suc m)) ≤ at) → (j : ℕ) → j < 7
+  lowered-at : (m < 10 → length (level marks start (suc m)) ≤ at) → (j : ℕ) → j < 10
       → level [] now (suc j) ≡ one_less (level marks start (suc j)) (count_at number (suc j))
   lowered-at past j lt = elim (cases_order j m) [
     | inl here ↦ unchanged (omega arith)
@@ -144,12 +144,12 @@ module _ {A : Type 0} (marks : List ℕ) (start now : List (Vec ℕ A)) (number 
           level-same marks [] start now j s.size (omega arith) (λ d. s.rest j d (omega arith))
           ∙ sym (set_past (level marks start (suc j)) (count_at number (suc j)) (get_or (level marks start (suc j)) (count_at number (suc j)) 0 - 1) beyond)
 
-  lowered-each : (marks' : List ℕ) → marks' ≡ set marks number 0 → (m < 7 → length (level marks start (suc m)) ≤ at) → (j : ℕ) → j < 8
+  lowered-each : (marks' : List ℕ) → marks' ≡ set marks number 0 → (m < 10 → length (level marks start (suc m)) ≤ at) → (j : ℕ) → j < 11
       → level marks' now j ≡ one_less (level marks start j) (count_at number j)
   lowered-each marks' is past zero lt = let none : 0 ≡ get_or marks number 0 - 1 = omega arith in is ∙ ap (λ (x : ℕ). set marks number x) none
   lowered-each marks' is past (suc j) lt = lowered-at past j (omega arith)
 
-  pub lowered-tower : (marks' : List ℕ) → marks' ≡ set marks number 0 → (m < 7 → length (level marks start (suc m)) ≤ at) → IsTower marks' now
+  pub lowered-tower : (marks' : List ℕ) → marks' ≡ set marks number 0 → (m < 10 → length (level marks start (suc m)) ≤ at) → IsTower marks' now
   lowered-tower marks' is past = record {
     height = s.size ∙ tower.height;
     few = omega (arith, ap (λ (xs : List ℕ). length xs) is, length-set marks number 0, tower.few);

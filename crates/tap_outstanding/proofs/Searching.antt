@@ -15,25 +15,25 @@ pub record IsSpot {A : Type 0} (marks : List ℕ) (sums : List (Vec ℕ A)) (pla
 -- a loop that has counted what stands before a number, but for the counts before `at` of level `m + 1`
 pub record IsRanked {A : Type 0} (marks : List ℕ) (sums : List (Vec ℕ A)) (number m at place : ℕ) : Type 0 where
   pub counted : sum_before (level marks sums (suc m)) at + place ≡ sum_before marks number
-  pub within : m < 7 → at ≤ length (level marks sums (suc m))
+  pub within : m < 10 → at ≤ length (level marks sums (suc m))
 
 module _ {A : Type 0} (marks : List ℕ) (sums : List (Vec ℕ A)) (tower : IsTower marks sums) where
   -- where no mark stands before a number, nothing is counted before its place in a level
-  low-within : (low j : ℕ) → low ≤ length marks → j ≤ 7 → count_at low j ≤ length (level marks sums j)
+  low-within : (low j : ℕ) → low ≤ length marks → j ≤ 10 → count_at low j ≤ length (level marks sums j)
   low-within low zero inside le = inside
   low-within low (suc j) inside le =
       let size = level-size marks sums tower j (omega arith) in
       omega (arith, size, low-within low j inside (omega arith))
 
-  low-none : (low j : ℕ) → low ≤ length marks → sum_before marks low ≡ 0 → j ≤ 7 → sum_before (level marks sums j) (count_at low j) ≡ 0
+  low-none : (low j : ℕ) → low ≤ length marks → sum_before marks low ≡ 0 → j ≤ 10 → sum_before (level marks sums j) (count_at low j) ≡ 0
   low-none low zero inside none le = none
   low-none low (suc j) inside none le =
       let within = low-within low (suc j) inside le in
       let up = (tower.summary j (omega arith)).sums (count_at low (suc j)) within in
-      let under = sum-monotone (level marks sums j) (16 * count_at low (suc j)) (count_at low j) (omega arith) in
+      let under = sum-monotone (level marks sums j) (8 * count_at low (suc j)) (count_at low j) (omega arith) in
       omega (arith, up, under, low-none low j inside none (omega arith))
 
-  pub spot-first : (low place j at : ℕ) → low ≤ length marks → sum_before marks low ≡ 0 → j ≤ 7 → at ≡ count_at low j
+  pub spot-first : (low place j at : ℕ) → low ≤ length marks → sum_before marks low ≡ 0 → j ≤ 10 → at ≡ count_at low j
       → IsSpot marks sums place j at place
   spot-first low place j at inside none le is =
       let here = ap (λ (i : ℕ). sum_before (level marks sums j) i) is in
@@ -42,7 +42,7 @@ module _ {A : Type 0} (marks : List ℕ) (sums : List (Vec ℕ A)) (tower : IsTo
         reached = omega (arith, here, low-none low j inside none le);
       }
 
-  pub spot-within : (place height at left : ℕ) (d : Vec ℕ A) → height ≤ 7 → 0 < height → IsSpot marks sums place height at left
+  pub spot-within : (place height at left : ℕ) (d : Vec ℕ A) → height ≤ 10 → 0 < height → IsSpot marks sums place height at left
       → at ≤ length (get_or sums (height - 1) d).items
   spot-within place zero at left d le pos spot = absurd (omega arith)
   spot-within place (suc i) at left d le pos spot =
@@ -51,10 +51,10 @@ module _ {A : Type 0} (marks : List ℕ) (sums : List (Vec ℕ A)) (tower : IsTo
       subst (λ (k : ℕ). at ≤ length (get_or sums k d).items) (sym e)
       (subst (λ (xs : List ℕ). at ≤ length xs) (level-of marks sums i d (omega arith)) spot.within)
 
-  pub spot-next : (place height at left at' left' : ℕ) (d : Vec ℕ A) → height ≤ 7 → 0 < height → IsSpot marks sums place height at left
+  pub spot-next : (place height at left at' left' : ℕ) (d : Vec ℕ A) → height ≤ 10 → 0 < height → IsSpot marks sums place height at left
       → at' ≤ length (get_or sums (height - 1) d).items
       → sum_before (get_or sums (height - 1) d).items at' + left' ≡ sum_before (get_or sums (height - 1) d).items at + left
-      → IsSpot marks sums place (height - 1) (at' * 16) left'
+      → IsSpot marks sums place (height - 1) (at' * 8) left'
   spot-next place zero at left at' left' d le pos spot within reached = absurd (omega arith)
   spot-next place (suc i) at left at' left' d le pos spot within reached =
       let height = tower.height in
@@ -68,30 +68,30 @@ module _ {A : Type 0} (marks : List ℕ) (sums : List (Vec ℕ A)) (tower : IsTo
       let was = spot.reached in
       let inside : at' ≤ length (level marks sums (suc i)) = omega arith in
       let down = (tower.summary i (omega arith)).sums at' inside in
-      let turn : at' * 16 ≡ 16 * at' = omega arith in
+      let turn : at' * 8 ≡ 8 * at' = omega arith in
       let same = ap (λ (k : ℕ). sum_before (level marks sums i) k) turn in
-      subst (λ (k : ℕ). IsSpot marks sums place k (at' * 16) left') (sym e) (record {
+      subst (λ (k : ℕ). IsSpot marks sums place k (at' * 8) left') (sym e) (record {
         within = omega arith;
         reached = omega (arith, reached, there, from, was, down, same);
       })
 
-  pub rank-first : (number place : ℕ) → number < length marks → sum_before marks (16 * (number / 16)) + place ≡ sum_before marks number
-      → IsRanked marks sums number 0 (number / 16) place
+  pub rank-first : (number place : ℕ) → number < length marks → sum_before marks (8 * (number / 8)) + place ≡ sum_before marks number
+      → IsRanked marks sums number 0 (number / 8) place
   rank-first number place within counted =
       let size = level-size marks sums tower 0 (omega arith) in
-      let down = (tower.summary 0 (omega arith)).sums (number / 16) (omega arith) in
+      let down = (tower.summary 0 (omega arith)).sums (number / 8) (omega arith) in
       record {
         counted = omega (arith, counted, down);
         within = λ lt. omega arith;
       }
 
-  pub rank-fits : (m : ℕ) (d : Vec ℕ A) → m < 7 → sum (get_or sums m d).items < 4294967296
+  pub rank-fits : (m : ℕ) (d : Vec ℕ A) → m < 10 → sum (get_or sums m d).items < 4294967296
   rank-fits m d lt =
       let height = tower.height in
       omega (arith, ap (λ (xs : List ℕ). sum xs) (level-of marks sums m d (omega arith)), few marks sums tower (suc m) (omega arith))
 
-  pub rank-add : (number m at place part : ℕ) (d : Vec ℕ A) → m < 7 → IsRanked marks sums number m at place
-      → sum_before (get_or sums m d).items (16 * (at / 16)) + part ≡ sum_before (get_or sums m d).items at → place + part < 4294967296
+  pub rank-add : (number m at place part : ℕ) (d : Vec ℕ A) → m < 10 → IsRanked marks sums number m at place
+      → sum_before (get_or sums m d).items (8 * (at / 8)) + part ≡ sum_before (get_or sums m d).items at → place + part < 4294967296
   rank-add number m at place part d lt ranked between =
       let height = tower.height in
       let counted = ranked.counted in
@@ -100,58 +100,58 @@ module _ {A : Type 0} (marks : List ℕ) (sums : List (Vec ℕ A)) (tower : IsTo
       let all = few marks sums tower 0 (omega arith) in
       omega (arith, between, here, most, all, counted)
 
-  pub rank-within : (number m at place : ℕ) (d : Vec ℕ A) → m < 7 → IsRanked marks sums number m at place
+  pub rank-within : (number m at place : ℕ) (d : Vec ℕ A) → m < 10 → IsRanked marks sums number m at place
       → at ≤ length (get_or sums m d).items
   rank-within number m at place d lt ranked =
       let height = tower.height in
       let within = ranked.within lt in
       subst (λ (xs : List ℕ). at ≤ length xs) (level-of marks sums m d (omega arith)) within
 
-  rank-step : (number m at place part : ℕ) → m < 7 → IsRanked marks sums number m at place
-      → sum_before (level marks sums (suc m)) (16 * (at / 16)) + part ≡ sum_before (level marks sums (suc m)) at
-      → IsRanked marks sums number (suc m) (at / 16) (place + part)
+  rank-step : (number m at place part : ℕ) → m < 10 → IsRanked marks sums number m at place
+      → sum_before (level marks sums (suc m)) (8 * (at / 8)) + part ≡ sum_before (level marks sums (suc m)) at
+      → IsRanked marks sums number (suc m) (at / 8) (place + part)
   rank-step number m at place part lt ranked between =
       let within = ranked.within lt in
       let so_far = ranked.counted in
-      elim (cases_order m 6) [
+      elim (cases_order m 9) [
         | inl is ↦ at_top is within so_far
         | inr (inl under) ↦
             let size = level-size marks sums tower (suc m) (omega arith) in
             record {
-              counted = omega (arith, so_far, between, (tower.summary (suc m) (omega arith)).sums (at / 16) (omega arith));
+              counted = omega (arith, so_far, between, (tower.summary (suc m) (omega arith)).sums (at / 8) (omega arith));
               within = λ lt'. omega arith;
             }
         | inr (inr over) ↦ absurd (omega arith)
       ]
     where
-      at_top : m ≡ 6 → at ≤ length (level marks sums (suc m))
+      at_top : m ≡ 9 → at ≤ length (level marks sums (suc m))
           → sum_before (level marks sums (suc m)) at + place ≡ sum_before marks number
-          → IsRanked marks sums number (suc m) (at / 16) (place + part)
+          → IsRanked marks sums number (suc m) (at / 8) (place + part)
       at_top is within so_far =
-          let short : length (level marks sums (suc m)) < 16 =
-          subst (λ (k : ℕ). length (level marks sums (suc k)) < 16) (sym is) (top marks sums tower) in
+          let short : length (level marks sums (suc m)) < 8 =
+          subst (λ (k : ℕ). length (level marks sums (suc k)) < 8) (sym is) (top marks sums tower) in
           let height = tower.height in
           let none = level-past marks sums (suc m) (omega arith) in
-          let empty : sum_before (level marks sums (suc (suc m))) (at / 16) ≡ 0 =
-          ap (λ (xs : List ℕ). sum_before xs (at / 16)) none ∙ sum-nothing (at / 16) in
-          let low = sum-monotone (level marks sums (suc m)) (16 * (at / 16)) 0 (omega arith) in
+          let empty : sum_before (level marks sums (suc (suc m))) (at / 8) ≡ 0 =
+          ap (λ (xs : List ℕ). sum_before xs (at / 8)) none ∙ sum-nothing (at / 8) in
+          let low = sum-monotone (level marks sums (suc m)) (8 * (at / 8)) 0 (omega arith) in
           record {
             counted = omega (arith, so_far, between, empty, low);
             within = λ lt'. absurd (omega arith);
           }
 
-  pub rank-next : (number m at place part : ℕ) (d : Vec ℕ A) → m < 7 → IsRanked marks sums number m at place
-      → sum_before (get_or sums m d).items (16 * (at / 16)) + part ≡ sum_before (get_or sums m d).items at
-      → IsRanked marks sums number (m + 1) (at / 16) (place + part)
+  pub rank-next : (number m at place part : ℕ) (d : Vec ℕ A) → m < 10 → IsRanked marks sums number m at place
+      → sum_before (get_or sums m d).items (8 * (at / 8)) + part ≡ sum_before (get_or sums m d).items at
+      → IsRanked marks sums number (m + 1) (at / 8) (place + part)
   rank-next number m at place part d lt ranked between =
       let height = tower.height in
       let e : suc m ≡ m + 1 = omega arith in
-      subst (λ (n : ℕ). IsRanked marks sums number n (at / 16) (place + part)) e
+      subst (λ (n : ℕ). IsRanked marks sums number n (at / 8) (place + part)) e
       (rank-step number m at place part lt ranked
-      (subst (λ (xs : List ℕ). sum_before xs (16 * (at / 16)) + part ≡ sum_before xs at) (sym (level-of marks sums m d (omega arith))) between))
+      (subst (λ (xs : List ℕ). sum_before xs (8 * (at / 8)) + part ≡ sum_before xs at) (sym (level-of marks sums m d (omega arith))) between))
 
   -- how the search ends
-  pub rank-end : (number m at place : ℕ) → m ≡ 7 → IsRanked marks sums number m at place → place ≡ sum_before marks number
+  pub rank-end : (number m at place : ℕ) → m ≡ 10 → IsRanked marks sums number m at place → place ≡ sum_before marks number
   rank-end number m at place end ranked =
       let height = tower.height in
       let none = level-past marks sums m (omega arith) in

@@ -8,19 +8,19 @@ use Rattle.tap_outstanding.specs.Levels.{IsSummary, vector_lists, level, IsTower
 use Rattle.tap_outstanding.proofs.Sums.{sum-monotone, sum-all}
 
 -- what a count stands for is at most the count above it, if there is one
-pub summary-count : (lower upper : List ℕ) (at : ℕ) → IsSummary lower upper → at / 16 < length upper
-    → get_or lower at 0 ≤ get_or upper (at / 16) 0
+pub summary-count : (lower upper : List ℕ) (at : ℕ) → IsSummary lower upper → at / 8 < length upper
+    → get_or lower at 0 ≤ get_or upper (at / 8) 0
 summary-count lower upper at s block =
-    let size : length upper ≡ length lower / 16 = s.size in
+    let size : length upper ≡ length lower / 8 = s.size in
     let within : at < length lower = omega arith in
     omega (
       arith,
-      s.sums (at / 16) (omega arith),
-      s.sums (at / 16 + 1) (omega arith),
-      sum_by_more (λ (x : ℕ). x) upper (at / 16) 0 block,
+      s.sums (at / 8) (omega arith),
+      s.sums (at / 8 + 1) (omega arith),
+      sum_by_more (λ (x : ℕ). x) upper (at / 8) 0 block,
       sum_by_more (λ (x : ℕ). x) lower at 0 within,
-      sum-monotone lower (16 * (at / 16)) at (omega arith),
-      sum-monotone lower (at + 1) (16 * (at / 16 + 1)) (omega arith),
+      sum-monotone lower (8 * (at / 8)) at (omega arith),
+      sum-monotone lower (at + 1) (8 * (at / 8 + 1)) (omega arith),
     )
 
 module _ {A : Type 0} (marks : List ℕ) (sums : List (Vec ℕ A)) where
@@ -59,7 +59,7 @@ totals marks sums m summary (suc j) le =
       totals marks sums m summary j (omega arith),
       s.sums end (omega arith),
       sum-all (level marks sums (suc j)) end (omega arith),
-      sum_by-take-le (λ (x : ℕ). x) (level marks sums j) (16 * end),
+      sum_by-take-le (λ (x : ℕ). x) (level marks sums j) (8 * end),
     )
 
 -- a vector that is as it was has the counts that it had
@@ -70,16 +70,16 @@ level-same {A = A} marks marks' (v ∷ vs) now j size within same =
     level-of marks' now j v (omega arith) ∙ ap (λ (w : Vec ℕ A). w.items) (same v) ∙ sym (level-of marks (v ∷ vs) j v within)
 
 module _ {A : Type 0} (marks : List ℕ) (sums : List (Vec ℕ A)) (tower : IsTower marks sums) where
-  pub level-size : (j : ℕ) → j < 7 → length (level marks sums (suc j)) ≡ length (level marks sums j) / 16
+  pub level-size : (j : ℕ) → j < 10 → length (level marks sums (suc j)) ≡ length (level marks sums j) / 8
   level-size j lt = (tower.summary j lt).size
 
   pub marked : sum marks ≤ length marks
   marked = let h = sum_by-le (λ (x : ℕ). x) 1 marks tower.ones in omega (arith, h)
 
-  pub few : (j : ℕ) → j < 8 → sum (level marks sums j) ≤ 4000000000
-  few j lt = omega (arith, totals marks sums 7 tower.summary j (omega arith), marked, tower.few)
+  pub few : (j : ℕ) → j < 11 → sum (level marks sums j) ≤ 4000000000
+  few j lt = omega (arith, totals marks sums 10 tower.summary j (omega arith), marked, tower.few)
 
-  pub top : length (level marks sums 7) < 16
+  pub top : length (level marks sums 10) < 8
   top =
       omega (
         arith,
@@ -90,11 +90,14 @@ module _ {A : Type 0} (marks : List ℕ) (sums : List (Vec ℕ A)) (tower : IsTo
         level-size 4 (omega arith),
         level-size 5 (omega arith),
         level-size 6 (omega arith),
+        level-size 7 (omega arith),
+        level-size 8 (omega arith),
+        level-size 9 (omega arith),
         tower.few,
       )
 
-  -- a number whose sixteen isn't whole in one level has no count in those above
-  pub index-past : (number j k : ℕ) → j ≤ k → k < 8 → length (level marks sums j) ≤ count_at number j
+  -- a number whose eight isn't whole in one level has no count in those above
+  pub index-past : (number j k : ℕ) → j ≤ k → k < 11 → length (level marks sums j) ≤ count_at number j
       → length (level marks sums k) ≤ count_at number k
   index-past number j zero le lt past = let e : j ≡ 0 = omega arith in subst (λ (i : ℕ). length (level marks sums i) ≤ count_at number i) e past
   index-past number j (suc k) le lt past = elim (cases_order j (suc k)) [
@@ -103,7 +106,7 @@ module _ {A : Type 0} (marks : List ℕ) (sums : List (Vec ℕ A)) (tower : IsTo
     | inr (inr after) ↦ absurd (omega arith)
   ]
 
-  pub index-count : (number j : ℕ) → 1 ≤ get_or marks number 0 → j < 8 → count_at number j < length (level marks sums j)
+  pub index-count : (number j : ℕ) → 1 ≤ get_or marks number 0 → j < 11 → count_at number j < length (level marks sums j)
       → 1 ≤ get_or (level marks sums j) (count_at number j) 0
   index-count number zero some lt within = some
   index-count number (suc j) some lt within =

@@ -5,13 +5,13 @@ ghost use Rattle.tap_outstanding.specs.Levels.{HaveRoom, IsTower, count_at, sum_
 use crate::memory::NoMemory;
 
 // How many counts of a level one count of the next stands for.
-const FAN: usize = 16;
+const FAN: usize = 8;
 
-// Sixteen is this power of two.
-const FAN_BITS: u32 = 4;
+// Eight is this power of two.
+const FAN_BITS: u32 = 3;
 
 // How many levels of sums there are.
-const HEIGHT: usize = 7;
+const HEIGHT: usize = 10;
 
 // A place among the counts of a level, and how many more go before what is sought.
 #[derive(Clone, Copy)]
@@ -69,11 +69,11 @@ pub(crate) fn find_after(marks: &[u8], sums: &[Vec<u32>], low: usize, place: u32
     find(marks, sums, low, place)
 }
 
-// Where a search begins that goes from one number up to another: at the lowest level at which few counts lie between them, seventeen at
+// Where a search begins that goes from one number up to another: at the lowest level at which few counts lie between them, nine at
 // most.
 fn start_of(low: usize, end: usize) -> Start
     requires order { low ≤ end }
-    ensures height { result.height ≤ 7 }
+    ensures height { result.height ≤ 10 }
     ensures at { result.at ≡ count_at low result.height }
 {
     let height = (((end - low).max(1).ilog2() / FAN_BITS) as usize).min(HEIGHT);
@@ -189,7 +189,7 @@ fn sum_between(counts: &[u32], from: usize, to: usize) -> u32
     total
 }
 
-/// Adds the mark of the next number, and the sums of the sixteens that are now whole. It takes no memory.
+/// Adds the mark of the next number, and the sums of the eights that are now whole. It takes no memory.
 #[inline(always)]
 pub(crate) fn raise(marks: &mut Vec<u8>, sums: &mut [Vec<u32>])
     requires tower { IsTower marks.old.items sums.old }

@@ -29,9 +29,9 @@ pub struct Flight {
 /// how many more there is room.
 ///
 /// The place of each frame's record is kept by the frame's number. Beside it lie marks, 1 for a frame
-/// that is outstanding and 0 for one that was taken, and above them sums of sixteen, sums of these, and
-/// so on, each once all sixteen are there. A call goes through the levels once at most, and through at most
-/// sixteen counts of each. Nothing is moved, and some 9 bytes are kept for each frame that was sent. Before
+/// that is outstanding and 0 for one that was taken, and above them sums of eight, sums of these, and
+/// so on, each once all eight are there. A call goes through the levels once at most, and through at most
+/// eight counts of each. Nothing is moved, and some 9 bytes are kept for each frame that was sent. Before
 /// one number, which only grows, all frames are known to be taken, so that the oldest one is mostly found at
 /// once, and a search goes from there up through no more levels than the frames that were sent since then fill.
 /// Taking it moves that number on, which over all calls passes each frame once.
@@ -42,7 +42,7 @@ pub struct Outstanding {
     records: Vec<usize>,
     // 1 for a frame that is outstanding, 0 for one that was taken.
     marks: Vec<u8>,
-    sums: [Vec<u32>; 7],
+    sums: [Vec<u32>; 10],
     count: u32,
     room: usize,
     // No frame before this number is outstanding.
@@ -70,6 +70,9 @@ impl Outstanding {
             records: Vec::new(alloc),
             marks: Vec::new(alloc),
             sums: [
+                Vec::new(alloc),
+                Vec::new(alloc),
+                Vec::new(alloc),
                 Vec::new(alloc),
                 Vec::new(alloc),
                 Vec::new(alloc),
