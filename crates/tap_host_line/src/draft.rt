@@ -1,10 +1,9 @@
-ghost use Rattle.std.specs.Prelude.{◌≡◌, ◌≤◌, ◌+◌, ◌*◌, ◌++◌, [], length, decimal};
+ghost use Rattle.std.specs.Prelude.{◌≡◌, ◌<◌, ◌≤◌, ◌+◌, ◌*◌, ◌++◌, length, take, decimal, All};
 ghost use Rattle.hex.specs.Hex.{encode_lower};
 ghost use Rattle.tap_name.specs.Name.{text_of_name};
 ghost use Rattle.tap_host_line.specs.Draft.{most_name_digits, most_number_digits};
 
 use itoa::Buffer;
-use std::marker::Model;
 use tap_name::{Name, print_digits, text_of_digit};
 
 // Nearly all frames have at most so many bytes; these are read and printed at once, without a list of their own.
@@ -13,105 +12,81 @@ pub(crate) const FEW_BYTES: usize = 256;
 // So many bytes have room for a word, a name, a number, three spaces and the end of a line.
 pub(crate) const SHORT: usize = 64;
 
-// So many have room for the line of a packet with a frame of few bytes.
-pub(crate) const LONG: usize = 2 * FEW_BYTES + SHORT;
-
 // A name has at most so many digits.
 const MOST_NAME_DIGITS: usize = 40;
 
-// A line that is put together in a room on the stack, so that all of it is added at once. Contracts see its bytes.
-#[derive(Drop)]
-pub(crate) struct Draft<const ROOM: usize> {
-    // So many bytes are there.
-    len: usize,
-    // They stand in the first places.
-    room: [u8; ROOM],
+// Prints bytes at a place of a room, and answers the place after them.
+#[inline(always)]
+pub(crate) fn print_bytes(room: &mut [u8], at: usize, bytes: &[u8]) -> usize
+    requires { at + length bytes.now ≤ length room.old }
+    ensures text { take result room.new ≡ take at room.old ++ bytes.now }
+    ensures end { result ≡ at + length bytes.now }
+    ensures room { length room.new ≡ length room.old }
+{
+    let end = at + bytes.len();
+    room[at..end].copy_from_slice(bytes);
+    end
 }
 
-impl<const ROOM: usize> Model for Draft<ROOM> {
-    ghost use Rattle.std.specs.Prelude.{◌≤◌, List, ℕ, take};
-
-    ghost Value = { List ℕ };
-
-    ghost view = { λ d. take d.len d.room };
-
-    ghost invariant = { λ d. d.len ≤ ROOM };
+// Prints a name there, a byte for each digit. All places that a name can have are printed at once, and the first of them taken.
+#[inline(always)]
+pub(crate) fn print_name(room: &mut [u8], at: usize, name: &Name) -> usize
+    requires { at + most_name_digits ≤ length room.old }
+    ensures text { take result room.new ≡ take at room.old ++ text_of_name name.now }
+    ensures end { result ≤ at + most_name_digits }
+    ensures room { length room.new ≡ length room.old }
+{
+    let digits = name.digits();
+    let digits = digits.as_slice();
+    let end = at + MOST_NAME_DIGITS;
+    if digits.len() == MOST_NAME_DIGITS {
+        print_digits(digits, &mut room[at..end]);
+        return end;
+    }
+    print_few_digits(digits, &mut room[at..end]);
+    at + digits.len()
 }
 
-impl<const ROOM: usize> Draft<ROOM> {
-    // Nothing is there.
-    #[inline(always)]
-    pub(crate) fn new() -> Draft<ROOM>
-        ensures { result ≡ [] }
-    {
-        Draft {
-            len: 0,
-            room: [0; ROOM],
-        }
-    }
+// Prints digits into the first of so many places.
+fn print_few_digits(digits: &[u8], text: &mut [u8])
+    requires few { length digits.now ≤ most_name_digits }
+    requires digits { All (λ digit. digit < 16) digits.now }
+    requires places { length text.old ≡ most_name_digits }
+    ensures { take (length digits.now) text.new ≡ text_of_name digits.now }
+{
+    let mut places = [0; MOST_NAME_DIGITS];
+    places[..digits.len()].copy_from_slice(digits);
+    print_digits(&places, text);
+}
 
-    // Its bytes.
-    #[inline(always)]
-    pub(crate) fn text(&self) -> &[u8]
-        ensures { result.now ≡ self.now }
-    {
-        &self.room[..self.len]
-    }
+// Prints a number there in decimal.
+#[inline(always)]
+pub(crate) fn print_number(room: &mut [u8], at: usize, number: u32) -> usize
+    requires { at + most_number_digits ≤ length room.old }
+    ensures text { take result room.new ≡ take at room.old ++ decimal number }
+    ensures end { result ≤ at + most_number_digits }
+    ensures room { length room.new ≡ length room.old }
+{
+    let mut buffer = Buffer::new();
+    print_bytes(room, at, buffer.format(number).as_bytes())
+}
 
-    // Adds bytes for which there is room.
-    #[inline(always)]
-    pub(crate) fn push(&mut self, bytes: &[u8])
-        requires { length self.old + length bytes.now ≤ ROOM }
-        ensures text { self.new ≡ self.old ++ bytes.now }
-        ensures len { length self.new ≡ length self.old + length bytes.now }
-    {
-        let end = self.len + bytes.len();
-        let room = &mut self.room[..];
-        room[self.len..end].copy_from_slice(bytes);
-        self.len = end;
-    }
-
-    // Adds a name, a byte for each digit. All places are printed at once, and the first of them taken.
-    pub(crate) fn push_name(&mut self, name: &Name)
-        requires { length self.old + most_name_digits ≤ ROOM }
-        ensures text { self.new ≡ self.old ++ text_of_name name.now }
-        ensures len { length self.new ≤ length self.old + most_name_digits }
-    {
-        let digits = name.digits();
-        let digits = digits.as_slice();
-        let mut places = [0; MOST_NAME_DIGITS];
-        places[..digits.len()].copy_from_slice(digits);
-        let room = &mut self.room[..];
-        print_digits(&places, &mut room[self.len..self.len + MOST_NAME_DIGITS]);
-        self.len += digits.len();
-    }
-
-    // Adds a number in decimal.
-    pub(crate) fn push_number(&mut self, number: u32)
-        requires { length self.old + most_number_digits ≤ ROOM }
-        ensures text { self.new ≡ self.old ++ decimal number }
-        ensures len { length self.new ≤ length self.old + most_number_digits }
-    {
-        let mut buffer = Buffer::new();
-        self.push(buffer.format(number).as_bytes());
-    }
-
-    // Adds bytes in hexadecimal.
-    pub(crate) fn push_hex(&mut self, bytes: &[u8])
-        requires { length self.old + 2 * length bytes.now ≤ ROOM }
-        ensures text { self.new ≡ self.old ++ encode_lower bytes.now }
-        ensures len { length self.new ≡ length self.old + 2 * length bytes.now }
-    {
-        let end = self.len + 2 * bytes.len();
-        let room = &mut self.room[..];
-        print_hex(bytes, &mut room[self.len..end]);
-        self.len = end;
-    }
+// Prints bytes there in hexadecimal.
+#[inline(always)]
+pub(crate) fn print_hex(room: &mut [u8], at: usize, bytes: &[u8]) -> usize
+    requires { at + 2 * length bytes.now ≤ length room.old }
+    ensures text { take result room.new ≡ take at room.old ++ encode_lower bytes.now }
+    ensures end { result ≡ at + 2 * length bytes.now }
+    ensures room { length room.new ≡ length room.old }
+{
+    let end = at + 2 * bytes.len();
+    put_digits(bytes, &mut room[at..end]);
+    end
 }
 
 // Prints bytes in hexadecimal, each in two places. The digits are made by numbers alone, so that many bytes are printed at once.
 #[inline(always)]
-fn print_hex(bytes: &[u8], text: &mut [u8])
+fn put_digits(bytes: &[u8], text: &mut [u8])
     requires { length text.old ≡ 2 * length bytes.now }
     ensures { text.new ≡ encode_lower bytes.now }
 {

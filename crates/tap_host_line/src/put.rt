@@ -1,9 +1,9 @@
-ghost use Rattle.std.specs.Prelude.{◌≡◌, ◌++◌, [], codes, decimal, OnOk, if◌then◌else◌};
+ghost use Rattle.std.specs.Prelude.{◌≡◌, ◌≤◌, ◌++◌, [], codes, decimal, length, OnOk, if◌then◌else◌};
 ghost use Rattle.hex.specs.Hex.{encode_lower};
 ghost use Rattle.tap_name.specs.Name.{text_of_name};
 ghost use Rattle.tap_host_line.specs.Texts.{text_of_ack, text_of_begun, text_of_count, text_of_lookup_server, text_of_news, text_of_packet, text_of_refused, text_of_status};
 
-use crate::draft::{Draft, FEW_BYTES, LONG, SHORT};
+use crate::draft::{FEW_BYTES, SHORT, print_bytes, print_hex, print_name, print_number};
 use crate::memory::NoMemory;
 use crate::why::Why;
 use itoa::Buffer;
@@ -16,18 +16,33 @@ use tap_node_common::News;
 pub fn put_packet(out: &mut Vec<u8>, to: &Name, seq: u32, frame: &[u8]) -> Result<(), NoMemory>
     ensures { OnOk result (out.new.items ≡ out.old.items ++ text_of_packet to.now seq frame.now) }
 {
-    let mut line = Draft::<LONG>::new();
-    line.push(b"packet ");
-    line.push_name(to);
-    line.push(b" ");
-    line.push_number(seq);
-    line.push(b" ");
-    if frame.len() <= FEW_BYTES {
-        line.push_hex(frame);
-        line.push(b"\n");
-        return put_text(out, line.text());
+    if frame.len() > FEW_BYTES {
+        return put_long_packet(out, to, seq, frame);
     }
-    put_text(out, line.text())?;
+    let start = out.len();
+    out.resize(start + SHORT + 2 * frame.len(), 0)?;
+    let room = out.as_mut_slice();
+    let at = print_bytes(room, start, b"packet ");
+    let at = print_name(room, at, to);
+    let at = print_bytes(room, at, b" ");
+    let at = print_number(room, at, seq);
+    let at = print_bytes(room, at, b" ");
+    let at = print_hex(room, at, frame);
+    let end = print_bytes(room, at, b"\n");
+    out.truncate(end);
+    Ok(())
+}
+
+// Adds the line of a packet whose frame has many bytes.
+#[inline(never)]
+fn put_long_packet(out: &mut Vec<u8>, to: &Name, seq: u32, frame: &[u8]) -> Result<(), NoMemory>
+    ensures { OnOk result (out.new.items ≡ out.old.items ++ text_of_packet to.now seq frame.now) }
+{
+    put_text(out, b"packet ")?;
+    put_name(out, to)?;
+    put_text(out, b" ")?;
+    put_number(out, seq)?;
+    put_text(out, b" ")?;
     put_hex(out, frame)?;
     put_text(out, b"\n")
 }
@@ -38,13 +53,16 @@ pub fn put_packet(out: &mut Vec<u8>, to: &Name, seq: u32, frame: &[u8]) -> Resul
 pub fn put_ack(out: &mut Vec<u8>, to: &Name, seq: u32) -> Result<(), NoMemory>
     ensures { OnOk result (out.new.items ≡ out.old.items ++ text_of_ack to.now seq) }
 {
-    let mut line = Draft::<SHORT>::new();
-    line.push(b"ack ");
-    line.push_name(to);
-    line.push(b" ");
-    line.push_number(seq);
-    line.push(b"\n");
-    put_text(out, line.text())
+    let start = out.len();
+    out.resize(start + SHORT, 0)?;
+    let room = out.as_mut_slice();
+    let at = print_bytes(room, start, b"ack ");
+    let at = print_name(room, at, to);
+    let at = print_bytes(room, at, b" ");
+    let at = print_number(room, at, seq);
+    let end = print_bytes(room, at, b"\n");
+    out.truncate(end);
+    Ok(())
 }
 
 /// Adds the line that a start was taken.
@@ -179,9 +197,11 @@ fn put_text(out: &mut Vec<u8>, text: &[u8]) -> Result<(), NoMemory>
 fn put_name(out: &mut Vec<u8>, name: &Name) -> Result<(), NoMemory>
     ensures { OnOk result (out.new.items ≡ out.old.items ++ text_of_name name.now) }
 {
-    let mut text = Draft::<SHORT>::new();
-    text.push_name(name);
-    put_text(out, text.text())
+    let start = out.len();
+    out.resize(start + SHORT, 0)?;
+    let end = print_name(out.as_mut_slice(), start, name);
+    out.truncate(end);
+    Ok(())
 }
 
 // Adds bytes in hexadecimal, a few at a time.
@@ -192,11 +212,20 @@ fn put_hex(out: &mut Vec<u8>, bytes: &[u8]) -> Result<(), NoMemory>
     let mut done = 0;
     while done < bytes.len() {
         let end = bytes.len().min(done + FEW_BYTES);
-        let mut text = Draft::<LONG>::new();
-        text.push_hex(&bytes[done..end]);
-        put_text(out, text.text())?;
+        put_few_hex(out, &bytes[done..end])?;
         done = end;
     }
+    Ok(())
+}
+
+// Adds few bytes in hexadecimal.
+fn put_few_hex(out: &mut Vec<u8>, bytes: &[u8]) -> Result<(), NoMemory>
+    requires { length bytes.now ≤ FEW_BYTES }
+    ensures { OnOk result (out.new.items ≡ out.old.items ++ encode_lower bytes.now) }
+{
+    let start = out.len();
+    out.resize(start + 2 * bytes.len(), 0)?;
+    print_hex(out.as_mut_slice(), start, bytes);
     Ok(())
 }
 

@@ -1,6 +1,5 @@
-use Rattle.std.proofs.Common.{◌≡◌, ◌∙◌, ◌++◌, ℕ, List, append-nil, ap, arith, sym}
-use Rattle.std.specs.Prelude.{slice_range}
-use Rattle.hex.specs.Hex.{encode_lower, encode_with}
+use Rattle.std.proofs.Common.{◌∙◌, ℕ, append-nil, arith, sym}
+use Rattle.hex.specs.Hex.{encode_with}
 use Rattle.tap_host_line.proofs.Drafts.{all_printed, piece_printed}
 use Rattle.tap_host_line.proofs.put.put_hex.Goals as goal
 
@@ -16,12 +15,9 @@ loop-done-preserved c =
     let was = c.loop-done.invariant in
     let from : ℕ = c.loop-done.done in
     let to : ℕ = c.min-end.result in
-    let piece : List ℕ = encode_lower (slice_range c.args.bytes.now from to) in
-    let drafted : c.text.result.now ≡ piece =
-    c.text.ensures ∙ c.push_hex.ensures.text ∙ ap (λ (front : List ℕ). front ++ piece) c.new-text.ensures in
     record {
       within = omega (arith, c.min-end.ensures);
-      text = c.in_ok-put_text.ensures ∙ ap (λ (text : List ℕ). c.loop-done.out.items ++ text) drafted
+      text = c.in_ok-put_few_hex.ensures
           ∙ piece_printed c.args.out.now.items c.loop-done.out.items c.args.bytes.now from to
           (omega (arith, c.min-end.ensures, c.loop-done-test.true)) was.text;
     }
