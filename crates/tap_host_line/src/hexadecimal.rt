@@ -1,7 +1,7 @@
 ghost use Rattle.std.specs.Prelude.{◌≡◌, ◌<◌, ◌≤◌, ◌*◌, All, length, map, Ok, IfOk, IfSome, option_map};
 ghost use Rattle.std.specs.Bool.{OnTrue};
 ghost use Rattle.hex.specs.Hex.{decode_of};
-ghost use Rattle.tap_name.specs.Digits.{digit_of_text};
+ghost use Rattle.tap_name.specs.Digits.{digit_of_text, text_of_digit};
 ghost use Rattle.tap_name.specs.Packed.{joined};
 ghost use Rattle.tap_host_line.specs.Line.{frame_of_word};
 
@@ -14,29 +14,30 @@ use tap_name::{put_joined, text_of_digit};
 // So many digits are read at once, and so many bytes put.
 const AT_ONCE: usize = 32;
 
-// The value of a digit, and 16 if the byte is none. It is made by numbers alone, without a branch, since many are made at once.
+// The value of a byte if it is a digit that is no capital letter. It is made by numbers alone, without a branch, since many are made at once.
 #[inline(always)]
 fn value_of(byte: u8) -> u8
-    ensures { result ≡ digit_of_text byte }
+    ensures value { text_of_digit result ≡ byte → result ≡ digit_of_text byte }
+    ensures small { result < 16 }
 {
-    let value = (byte % 16 + 9 * u8::from(byte > 64)) % 16;
-    value + (16 - value) * u8::from(text_of_digit(value) != byte)
+    (byte % 16 + 9 * u8::from(byte > 64)) % 16
 }
 
-// Takes the values of digits, and answers whether each byte is one. Capital letters are none.
+// Takes the values of digits, and answers whether each byte is one. Capital letters are none. Each value is printed again, and the greatest
+// difference from its byte looked at in the end.
 #[inline(always)]
 fn take_digits(text: &[u8], values: &mut [u8]) -> bool
     requires { length values.old ≡ length text.now }
     ensures all { OnTrue result (All (λ value. value < 16) values.new) }
-    ensures values { values.new ≡ map digit_of_text text.now }
+    ensures values { OnTrue result (values.new ≡ map digit_of_text text.now) }
 {
     let mut worst = 0;
     for at in 0..text.len() {
         let value = value_of(text[at]);
-        worst = worst.max(value);
+        worst = worst.max(text_of_digit(value).wrapping_sub(text[at]));
         values[at] = value;
     }
-    worst < 16
+    worst == 0
 }
 
 // Takes the values of digits, and answers whether each byte is one. The last of them are taken together, with some that were taken before, so
@@ -45,7 +46,7 @@ fn take_digits(text: &[u8], values: &mut [u8]) -> bool
 fn take_all_digits(text: &[u8], values: &mut [u8]) -> bool
     requires { length values.old ≡ length text.now }
     ensures all { OnTrue result (All (λ value. value < 16) values.new) }
-    ensures values { values.new ≡ map digit_of_text text.now }
+    ensures values { OnTrue result (values.new ≡ map digit_of_text text.now) }
 {
     if text.len() < AT_ONCE {
         return take_digits(text, values);

@@ -11,7 +11,7 @@ first_places places others len is =
 pub returns : goal.returns
 returns c =
     few_taken c.args.count ((c.args.count + 32 - 1) / 32) c.args.text.now c.take_all_digits.new.values _ c.requires.len (omega arith)
-    c.take_all_digits.ensures.values c.if-not-take_all_digits.ensures.all
+    c.if-not-take_all_digits.ensures.values c.if-not-take_all_digits.ensures.all
     ∙ ap Ok (sym (c.truncate.ensures.items ∙ ap (take c.args.count)
     (first_places c.put_blocks.new.places _ c.resize.new.self.len (c.put_blocks.ensures.len ∙ sym c.in_ok-resize.ensures.len)
     ∙ c.put_blocks.ensures.value)))

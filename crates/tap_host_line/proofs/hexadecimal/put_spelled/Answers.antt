@@ -5,6 +5,7 @@ use Rattle.tap_host_line.proofs.hexadecimal.put_spelled.Goals as goal
 
 pub returns : goal.returns
 returns c =
-    let all = subst (All (λ value. value < 16)) c.take_digits.ensures.values c.if-not-take_digits.ensures.all in
+    let same = c.if-not-take_digits.ensures.values in
+    let all = subst (All (λ value. value < 16)) same c.if-not-take_digits.ensures.all in
     digits_read _ c.args.text.now c.requires.places all
-    ∙ ap Ok (sym (c.put_joined.ensures ∙ ap joined c.take_digits.ensures.values))
+    ∙ ap Ok (sym (c.put_joined.ensures ∙ ap joined same))

@@ -1,4 +1,5 @@
 use Rattle.std.proofs.Common.{◌≡◌, ◌∙◌, ℕ, List, ◌-◌, ◌*◌, ◌/◌, ap, arith, drop, length, length-drop, map, take, take_all}
+use Rattle.std.proofs.lemmas.Bool.{OnTrue_at, OnTrue_from}
 use Rattle.tap_name.specs.Digits.{digit_of_text}
 use Rattle.tap_host_line.proofs.Hexes.{digits_twice}
 use Rattle.tap_host_line.proofs.hexadecimal.take_all_digits.Goals as goal
@@ -13,14 +14,10 @@ pub returns-then-are_first-clause-values : goal.returns-then-are_first-clause-va
 returns-then-are_first-clause-values c =
     let text : List ℕ = c.args.text.now in
     let size : ℕ = length text in
-    digits_twice text c.take_digits-are_first.new.values (drop (size / 32 * 32) c.args.values.now) c.take_digits-are_last.new.values
-    (size / 32 * 32) (size - 32) (omega arith) (omega arith) c.take_digits-are_first.ensures.values
-    (at_end text c.take_digits-are_last.new.values c.take_digits-are_last.ensures.values)
-
-pub returns-else-are_first-clause-values : goal.returns-else-are_first-clause-values
-returns-else-are_first-clause-values c =
-    let text : List ℕ = c.args.text.now in
-    let size : ℕ = length text in
-    digits_twice text c.take_digits-are_first.new.values (drop (size / 32 * 32) c.args.values.now) c.take_digits-are_last.new.values
-    (size / 32 * 32) (size - 32) (omega arith) (omega arith) c.take_digits-are_first.ensures.values
-    (at_end text c.take_digits-are_last.new.values c.take_digits-are_last.ensures.values)
+    let first : List ℕ = c.take_digits-are_first.new.values in
+    let last : List ℕ = c.take_digits-are_last.new.values in
+    let are_first : first ≡ map digit_of_text (take (size / 32 * 32) text) =
+    OnTrue_at c.if-are_first.true c.take_digits-are_first.ensures.values in
+    OnTrue_from c.take_digits-are_last.result _ (λ are_last.
+    digits_twice text first (drop (size / 32 * 32) c.args.values.now) last (size / 32 * 32) (size - 32) (omega arith) (omega arith) are_first
+    (at_end text last (OnTrue_at are_last c.take_digits-are_last.ensures.values)))

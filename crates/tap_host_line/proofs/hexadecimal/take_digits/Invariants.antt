@@ -5,6 +5,6 @@ use Rattle.tap_host_line.proofs.hexadecimal.take_digits.Given as goal
 abbrev pub invariant-loop-at : goal.invariant-loop-at
 invariant-loop-at l = record {
   room : length l.values ≡ length l.text;
-  taken : take l.at l.values ≡ map digit_of_text (take l.at l.text);
-  all : l.worst < 16 → All (λ value. value < 16) (take l.at l.values);
+  all : All (λ value. value < 16) (take l.at l.values);
+  taken : l.worst ≡ 0 → take l.at l.values ≡ map digit_of_text (take l.at l.text);
 }
