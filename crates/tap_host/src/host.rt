@@ -45,6 +45,8 @@ pub struct Host {
     mail: Mail,
     intake: Intake,
     begun: bool,
+    // The list of a frame that was read, lent to the next line.
+    spare: Vec<u8>,
 }
 
 impl Model for Host {
@@ -69,6 +71,7 @@ impl Host {
             mail: Mail::new(alloc),
             intake: Intake::new(alloc),
             begun: false,
+            spare: Vec::new(alloc),
         })
     }
 
@@ -81,10 +84,24 @@ impl Host {
         ensures { IfOk result (TakesStep (host_line (host_seen self.old) number text.now)
             (host_seen self.new) out.old.items out.new.items) }
     {
-        match read_line(self.alloc, &self.actor.settings(), text)? {
-            Some(line) => self.take_line(out, number, &line),
+        match read_line(self.alloc, &mut self.spare, &self.actor.settings(), text)? {
+            Some(line) => self.take_read(out, number, line),
             None => refuse(out, number, Why::Line),
         }
+    }
+
+    // Takes a line that was read. The list of its frame is lent to the next line.
+    #[inline(always)]
+    fn take_read(&mut self, out: &mut Vec<u8>, number: u64, line: Line) -> Result<Going, NoMemory>
+        requires { IsNodeLine (host_settings (host_seen self.old)) line }
+        ensures { IfOk result (TakesStep (step_of_line (host_seen self.old) number line)
+            (host_seen self.new) out.old.items out.new.items) }
+    {
+        let going = self.take_line(out, number, &line)?;
+        if let Some(frame) = line.into_frame() {
+            self.spare = frame.into_vec();
+        }
+        Ok(going)
     }
 
     // Takes a line.

@@ -9,6 +9,7 @@ use crate::draft::FEW_BYTES;
 use crate::memory::NoMemory;
 use hex::FromHexError;
 use std::alloc::Global;
+use std::mem;
 use tap_name::{put_joined, text_of_digit};
 
 // So many digits are read at once, and so many bytes put.
@@ -88,7 +89,6 @@ fn put_few(text: &[u8], count: usize, bytes: &mut Vec<u8>) -> Result<bool, NoMem
         return Ok(false);
     }
     let blocks = (count + AT_ONCE - 1) / AT_ONCE;
-    bytes.clear();
     bytes.resize(AT_ONCE * blocks, 0)?;
     put_blocks(
         &values[..2 * AT_ONCE * blocks],
@@ -126,8 +126,8 @@ fn many_bytes(alloc: Global, text: &[u8], count: usize) -> Result<Option<Vec<u8>
     }
 }
 
-// The bytes that digits spell, if they are an even number of digits without capital letters.
-fn usual_bytes(alloc: Global, text: &[u8]) -> Result<Option<Vec<u8>>, NoMemory>
+// The bytes that digits spell, if they are an even number of digits without capital letters. Few of them are put into the spare list.
+fn usual_bytes(alloc: Global, spare: &mut Vec<u8>, text: &[u8]) -> Result<Option<Vec<u8>>, NoMemory>
     ensures { IfOk result (λ bytes. IfSome bytes (λ found. decode_of text.now ≡ Ok found.items)) }
 {
     if text.len() % 2 != 0 {
@@ -137,19 +137,23 @@ fn usual_bytes(alloc: Global, text: &[u8]) -> Result<Option<Vec<u8>>, NoMemory>
     if count > FEW_BYTES {
         return many_bytes(alloc, text, count);
     }
-    let mut bytes = Vec::new(alloc);
-    if put_few(text, count, &mut bytes)? {
-        Ok(Some(bytes))
+    if put_few(text, count, spare)? {
+        Ok(Some(mem::replace(spare, Vec::new(alloc))))
     } else {
         Ok(None)
     }
 }
 
-// The bytes that a word of hexadecimal digits spells, if it is one. Those with capital letters are few, and take longer.
-pub(crate) fn bytes_of_hex(alloc: Global, word: &[u8]) -> Result<Option<Vec<u8>>, NoMemory>
+// The bytes that a word of hexadecimal digits spells, if it is one. Those with capital letters are few, and take longer. The spare list may be
+// taken for them.
+pub(crate) fn bytes_of_hex(
+    alloc: Global,
+    spare: &mut Vec<u8>,
+    word: &[u8],
+) -> Result<Option<Vec<u8>>, NoMemory>
     ensures { IfOk result (λ bytes. option_map (λ found. found.items) bytes ≡ frame_of_word word.now) }
 {
-    if let Some(bytes) = usual_bytes(alloc, word)? {
+    if let Some(bytes) = usual_bytes(alloc, spare, word)? {
         return Ok(Some(bytes));
     }
     match hex::decode(alloc, word) {

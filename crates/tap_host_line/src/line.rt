@@ -79,3 +79,15 @@ pub enum Line {
     /// The status of the node is asked for.
     Status,
 }
+
+impl Line {
+    /// The list of the frame of a packet, and `None` of each other line.
+    ///
+    /// Rule: docs/NETWORK.md, "Lines".
+    pub fn into_frame(self) -> Option<List<u8>> {
+        match self {
+            Line::Packet { frame, .. } => Some(frame),
+            _ => None,
+        }
+    }
+}

@@ -21,8 +21,15 @@ const MOST_SEQ: u64 = 4_000_000_000;
 /// The line that a text is, if it is one: its words have one space between them and nothing before or after them, its names are names of the
 /// settings, written digit by digit, and its numbers are decimal, with no sign and no leading zero.
 ///
+/// The list that is lent may be taken for the frame of a packet, so that it needs no memory of its own; it is spare, and what it then has isn't said.
+///
 /// Rule: docs/NETWORK.md, "Lines".
-pub fn read_line(alloc: Global, settings: &Settings, text: &[u8]) -> Result<Option<Line>, NoMemory>
+pub fn read_line(
+    alloc: Global,
+    spare: &mut Vec<u8>,
+    settings: &Settings,
+    text: &[u8],
+) -> Result<Option<Line>, NoMemory>
     ensures value { IfOk result (λ line. line ≡ node_line_of_text settings.now text.now) }
     ensures valid { IfOk result (λ line. IfSome line (IsNodeLine settings.now)) }
 {
@@ -31,7 +38,7 @@ pub fn read_line(alloc: Global, settings: &Settings, text: &[u8]) -> Result<Opti
         return Ok(None);
     };
     match Verb::of(word) {
-        Some(verb) => line_of(alloc, settings, verb, words),
+        Some(verb) => line_of(alloc, spare, settings, verb, words),
         None => Ok(None),
     }
 }
@@ -39,6 +46,7 @@ pub fn read_line(alloc: Global, settings: &Settings, text: &[u8]) -> Result<Opti
 // The line with this verb and these words after it.
 fn line_of(
     alloc: Global,
+    spare: &mut Vec<u8>,
     settings: &Settings,
     verb: Verb,
     words: Words<'_>,
@@ -47,7 +55,7 @@ fn line_of(
     ensures valid { IfOk result (λ line. IfSome line (IsNodeLine settings.now)) }
 {
     match verb {
-        Verb::Packet => read_packet(alloc, settings, words),
+        Verb::Packet => read_packet(alloc, spare, settings, words),
         Verb::Ack => Ok(read_ack(settings, words)),
         Verb::Members => read_members(alloc, settings, words),
         Verb::Tick => Ok(only(words, Line::Tick)),
@@ -66,6 +74,7 @@ fn line_of(
 }
 
 // The start with this verb and these words after it.
+#[inline(never)]
 fn start_of(settings: &Settings, verb: Verb, words: Words<'_>) -> Option<Start>
     ensures value { result ≡ start_of_words settings.now verb words.entry }
     ensures valid { IfSome result (IsNodeStart settings.now) }
@@ -170,6 +179,7 @@ fn seq_of(word: &[u8]) -> Option<u32>
 #[inline(never)]
 fn read_packet(
     alloc: Global,
+    spare: &mut Vec<u8>,
     settings: &Settings,
     words: Words<'_>,
 ) -> Result<Option<Line>, NoMemory>
@@ -189,7 +199,7 @@ fn read_packet(
     let Some(frame) = words.text() else {
         return Ok(None);
     };
-    match bytes_of_hex(alloc, frame)? {
+    match bytes_of_hex(alloc, spare, frame)? {
         Some(bytes) => Ok(Some(Line::Packet {
             from,
             seq,
