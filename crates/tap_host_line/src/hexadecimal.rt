@@ -21,7 +21,7 @@ fn value_of(byte: u8) -> u8
     ensures value { text_of_digit result ≡ byte → result ≡ digit_of_text byte }
     ensures small { result < 16 }
 {
-    (byte % 16 + 9 * u8::from(byte > 64)) % 16
+    (byte % 16 + 9 * u8::from(byte > b'9')) % 16
 }
 
 // Takes the values of digits, and answers whether each byte is one. Capital letters are none. Each value is printed again, and the greatest
