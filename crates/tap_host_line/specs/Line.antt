@@ -165,3 +165,12 @@ IsNodeLine p (line.Ack from seq) = (IsName p from) × (1 ≤ seq)
 IsNodeLine p (line.Start begun) = IsNodeStart p begun
 IsNodeLine p line.Tick = Unit {0}
 IsNodeLine p line.Status = Unit {0}
+
+-- the frame of a packet; no other line has one
+abbrev pub frame_of_line : Line → Option (List ℕ)
+frame_of_line (line.Packet from seq frame) = Some frame
+frame_of_line (line.Members names) = None
+frame_of_line (line.Ack from seq) = None
+frame_of_line (line.Start start) = None
+frame_of_line line.Tick = None
+frame_of_line line.Status = None

@@ -1,3 +1,6 @@
+ghost use Rattle.std.specs.Prelude.{◌≡◌};
+ghost use Rattle.tap_host_line.specs.Line.{frame_of_line};
+
 use tap_name::{List, Name};
 use tap_scenario::Word;
 
@@ -84,10 +87,16 @@ impl Line {
     /// The list of the frame of a packet, and `None` of each other line.
     ///
     /// Rule: docs/NETWORK.md, "Lines".
-    pub fn into_frame(self) -> Option<List<u8>> {
+    pub fn into_frame(self) -> Option<List<u8>>
+        ensures { result ≡ frame_of_line self }
+    {
         match self {
             Line::Packet { frame, .. } => Some(frame),
-            _ => None,
+            Line::Members { .. }
+            | Line::Ack { .. }
+            | Line::Start { .. }
+            | Line::Tick
+            | Line::Status => None,
         }
     }
 }
