@@ -1,5 +1,5 @@
 -- The place of a number in a list that has it.
--- Cited above: place_at, place_found.
+-- Cited above: place_at, place_found
 use Rattle.std.proofs.Common.{◌≡◌, inl, inr, ℕ, ◌+◌, ◌<◌, true, not, List, [], ◌∷◌, length, get_or, cond, None, Some, ap, sym, ◌∙◌, arith}
 use Rattle.std.specs.Prelude.{◌||◌, nat_eq, position, slice_get}
 use Rattle.std.specs.List.{position_or_len}

@@ -7,7 +7,7 @@ use crate::memory::NoMemory;
 // How many counts of a level one count of the next stands for.
 const FAN: usize = 8;
 
-// Eight is this power of two.
+// Two to this power is `FAN`.
 const FAN_BITS: u32 = 3;
 
 // How many levels of sums there are.
@@ -69,8 +69,8 @@ pub(crate) fn find_after(marks: &[u8], sums: &[Vec<u32>], low: usize, place: u32
     find(marks, sums, low, place)
 }
 
-// Where a search begins that goes from one number up to another: at the lowest level at which few counts lie between them, nine at
-// most.
+// Where a search begins that goes from one number up to another: at the highest level of which one count stands for no more marks than
+// lie between them, so that it passes eight counts there at most.
 fn start_of(low: usize, end: usize) -> Start
     requires order { low ≤ end }
     ensures height { result.height ≤ 10 }

@@ -31,7 +31,7 @@ pub struct Flight {
 /// The place of each frame's record is kept by the frame's number. Beside it lie marks, 1 for a frame
 /// that is outstanding and 0 for one that was taken, and above them sums of eight, sums of these, and
 /// so on, each once all eight are there. A call goes through the levels once at most, and through at most
-/// eight counts of each. Nothing is moved, and some 9 bytes are kept for each frame that was sent. Before
+/// eight counts of each. Nothing is moved, and fewer than 10 bytes are kept for each frame that was sent. Before
 /// one number, which only grows, all frames are known to be taken, so that the oldest one is mostly found at
 /// once, and a search goes from there up through no more levels than the frames that were sent since then fill.
 /// Taking it moves that number on, which over all calls passes each frame once.
