@@ -93,7 +93,8 @@ tally_of-append records (item ∷ items) =
     ap tally_of (sym (append_assoc records (item ∷ []) items)) ∙ tally_of-append (records ++ item ∷ []) items
     ∙ ap (λ t. fold tally_after t items) (tally_of-push records item)
 
-nothing_kept : (t : Tally) (items : List Record) → fold (λ x item. x) t items ≡ t
+-- where nothing is kept, what was kept stays
+pub nothing_kept : (t : Tally) (items : List Record) → fold (λ x item. x) t items ≡ t
 nothing_kept t [] = refl
 nothing_kept t (item ∷ items) = nothing_kept t items
 

@@ -1,23 +1,14 @@
-use Rattle.std.proofs.Common.{◌≡◌, List, take, [], ◌∷◌, refl, ap, sym, arith, ◌∙◌}
-use Rattle.std.specs.Prelude.{fold}
+use Rattle.std.proofs.Common.{take, [], ◌∷◌, refl, ap, sym, arith, ◌∙◌}
 use Rattle.std.proofs.lemmas.List.Sums.{fold-append}
-use Rattle.tap_log.specs.declared.record.Record.{Record}
 use Rattle.tap_report.specs.Reporter.{kept_after}
-use Rattle.tap_report.specs.declared.tally.Tally.{Tally}
-use Rattle.tap_report.specs.declared.mode.Mode.TheVariants.{Long}
 use Rattle.tap_report.specs.Text.{settings_after}
 use Rattle.tap_report.proofs.PrintsLemmas.{◌⨾◌, Prints-none}
-use Rattle.tap_report.proofs.TallyLemmas.{CountsWithin-kept, CountsWithin-more}
+use Rattle.tap_report.proofs.TallyLemmas.{CountsWithin-kept, CountsWithin-more, nothing_kept}
 use Rattle.tap_report.proofs.TextLemmas.{ArePrintable-at, take_next, texts_after-push}
 use Rattle.tap_report.proofs.reporter.print_each.Goals as goal
 
--- in the long mode nothing is kept
-none-kept : (items : List Record) (t : Tally) → t ≡ fold (kept_after Long) t items
-none-kept [] t = refl
-none-kept (item ∷ items) t = none-kept items t
-
 pub returns-in-Long-clause-tally : goal.returns-in-Long-clause-tally
-returns-in-Long-clause-tally g c = rw c.in-Long.is (none-kept c.args.items.now c.args.tally.now)
+returns-in-Long-clause-tally g c = rw c.in-Long.is (sym (nothing_kept c.args.tally.now c.args.items.now))
 
 pub add_record-requires : goal.add_record-requires
 add_record-requires g c =
