@@ -4,13 +4,13 @@ use Rattle.std.specs.Prelude.{Ok}
 use Rattle.std.proofs.lemmas.Bool.Decides.{nat_tests}
 use Rattle.std.proofs.Math.Seq.{take-append-add}
 use Rattle.std.proofs.lemmas.List.{drop_all, length-map, length-take-le, take-append-le, take-take}
-use Rattle.std.proofs.lemmas.List.Elements.{All-append, All-drop, All-head, All-replicate, All-tail, All-take}
+use Rattle.std.proofs.lemmas.List.Elements.{All-append, All-drop, All-head, All-replicate, All-tail}
 use Rattle.hex.specs.Hex.{decode_of, decode_pairs, hex_digit_value}
 use Rattle.hex.proofs.HexLemmas.{decode_of-even}
 use Rattle.tap_name.specs.Digits.{digit_of_text}
 use Rattle.tap_name.specs.Packed.{joined}
 use Rattle.tap_name.proofs.Halves.{joined_front}
-use Rattle.tap_host_line.proofs.Drafts.{put_after}
+use Rattle.tap_host_line.proofs.Rooms.{put_after}
 
 -- a digit without a capital letter is read as it is printed
 digit_read : (byte : ℕ) → digit_of_text byte < 16 → hex_digit_value byte ≡ Some (digit_of_text byte)
@@ -60,11 +60,6 @@ few_taken n blocks text front zeros len within is all =
     let taken : take (64 * blocks) (front ++ zeros) ≡ front ++ take more zeros =
     ap (λ k. take k (front ++ zeros)) sum ∙ take-append-add front zeros more in
     few_read n text front (take more zeros) len is all ∙ ap (λ (digits : List ℕ). Ok (take n (joined digits))) (sym taken)
-
-pub few_all_small : (front : List ℕ) (skipped count taken : ℕ) → All (λ digit. digit < 16) front
-    → All (λ digit. digit < 16) (take taken (front ++ drop skipped (replicate count 0)))
-few_all_small front skipped count taken all =
-    All-take (λ digit. digit < 16) taken (front ++ drop skipped (replicate count 0)) (few_small front skipped count all)
 
 -- ---- digits that are taken twice: the first of them, and then the last
 

@@ -1,5 +1,5 @@
-mod Drafts
 mod Hexes
 mod Known
 mod Members
 mod Packets
+mod Rooms

@@ -1,5 +1,5 @@
 pub mod Command
-pub mod Draft
 pub mod Line
+pub mod Room
 pub mod Texts
 pub mod Words

@@ -5,8 +5,8 @@ ghost use Rattle.tap_name.specs.Digits.{digit_of_text, text_of_digit};
 ghost use Rattle.tap_name.specs.Packed.{joined};
 ghost use Rattle.tap_host_line.specs.Line.{frame_of_word};
 
-use crate::draft::FEW_BYTES;
 use crate::memory::NoMemory;
+use crate::room::FEW_BYTES;
 use hex::FromHexError;
 use std::alloc::Global;
 use std::mem;

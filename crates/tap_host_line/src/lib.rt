@@ -6,12 +6,13 @@
 
 mod asked;
 mod command;
-mod draft;
 mod hexadecimal;
 mod line;
 mod memory;
 mod put;
 mod reading;
+mod room;
+mod shown;
 mod verb;
 mod why;
 
@@ -20,4 +21,5 @@ pub use line::{Line, Start};
 pub use memory::NoMemory;
 pub use put::{put_ack, put_begun, put_count, put_news, put_packet, put_refused, put_status};
 pub use reading::read_line;
+pub use shown::text_asked;
 pub use why::Why;

@@ -3,8 +3,8 @@ ghost use Rattle.hex.specs.Hex.{encode_lower};
 ghost use Rattle.tap_name.specs.Name.{text_of_name};
 ghost use Rattle.tap_host_line.specs.Texts.{text_of_ack, text_of_begun, text_of_count, text_of_lookup_server, text_of_news, text_of_packet, text_of_refused, text_of_status};
 
-use crate::draft::{FEW_BYTES, SHORT, print_bytes, print_hex, print_name, print_number};
 use crate::memory::NoMemory;
+use crate::room::{FEW_BYTES, SHORT, print_bytes, print_hex, print_name, print_number};
 use crate::why::Why;
 use itoa::Buffer;
 use tap_name::Name;

@@ -21,7 +21,8 @@ const MOST_SEQ: u64 = 4_000_000_000;
 /// The line that a text is, if it is one: its words have one space between them and nothing before or after them, its names are names of the
 /// settings, written digit by digit, and its numbers are decimal, with no sign and no leading zero.
 ///
-/// The list that is lent may be taken for the frame of a packet, so that it needs no memory of its own; it is spare, and what it then has isn't said.
+/// The list that is lent may be taken for the frame of a packet, so that it mostly needs no memory of its own; it is spare, and what it then has isn't
+/// said.
 ///
 /// Rule: docs/NETWORK.md, "Lines".
 pub fn read_line(

@@ -1,11 +1,12 @@
-//! Runs one node: reads lines from standard input, after one for its members if a file names them, and prints the lines that each brings.
+//! Runs one node: reads lines from standard input, after one for its members if a file names them, and prints the lines that each brings. Or it prints
+//! help or its version.
 #![tactic(auto)]
 
 use std::fs;
 use std::io::{self, Read};
 use std::process::ExitCode;
 use tap_host::HostStatus;
-use tap_host_line::{WordsRefusal, members_file};
+use tap_host_line::{WordsRefusal, members_file, text_asked};
 use tap_io::{StdSink, StdSource};
 
 // How the program ends if its arguments can't be had: for want of memory, or since one of them isn't UTF-8.
@@ -67,9 +68,21 @@ fn first_line(rt: &HostRuntime, words: &[String]) -> Result<Vec<u8>, HostStatus>
     }
 }
 
+// Prints help or the version if the words ask for it, and says whether they do.
+fn print_text(rt: &HostRuntime, words: &[String]) -> Result<bool, HostStatus> {
+    let Some(text) = text_asked(rt.alloc(), words).map_err(|_| HostStatus::NoMemory)? else {
+        return Ok(false);
+    };
+    text.print(rt).map_err(|_| HostStatus::WriteFault)?;
+    Ok(true)
+}
+
 // Runs the node to its end, or says why it doesn't begin.
 fn run(rt: &HostRuntime) -> Result<HostStatus, HostStatus> {
     let words = words_of(rt)?;
+    if print_text(rt, words.as_slice())? {
+        return Ok(HostStatus::Done);
+    }
     let first = first_line(rt, words.as_slice())?;
     let mut source = StdSource::new(first.as_slice().chain(rt.stdin()));
     let mut sink = StdSink::new(io::writer(rt));

@@ -1,6 +1,6 @@
 use Rattle.std.proofs.Common.{◌∙◌, ℕ, append-nil, arith, sym}
 use Rattle.hex.specs.Hex.{encode_with}
-use Rattle.tap_host_line.proofs.Drafts.{all_printed, piece_printed}
+use Rattle.tap_host_line.proofs.Rooms.{all_printed, piece_printed}
 use Rattle.tap_host_line.proofs.put.put_hex.Goals as goal
 
 pub loop-done-init : goal.loop-done-init

@@ -1,7 +1,7 @@
 use Rattle.std.proofs.Common.{◌∙◌, ◌++◌, ℕ, List, ap, arith, length, take}
 use Rattle.tap_name.specs.Name.{text_of_name}
-use Rattle.tap_host_line.proofs.Drafts.{put_after}
-use Rattle.tap_host_line.proofs.draft.print_name.Goals as goal
+use Rattle.tap_host_line.proofs.Rooms.{put_after}
+use Rattle.tap_host_line.proofs.room.print_name.Goals as goal
 
 pub returns-clause-text : goal.returns-clause-text
 returns-clause-text c =

@@ -1,7 +1,7 @@
 ghost use Rattle.std.specs.Prelude.{◌≡◌, ◌<◌, ◌≤◌, ◌+◌, ◌*◌, ◌++◌, length, take, decimal, All};
 ghost use Rattle.hex.specs.Hex.{encode_lower};
 ghost use Rattle.tap_name.specs.Name.{text_of_name};
-ghost use Rattle.tap_host_line.specs.Draft.{most_name_digits, most_number_digits};
+ghost use Rattle.tap_host_line.specs.Room.{most_name_digits, most_number_digits};
 
 use itoa::Buffer;
 use tap_name::{Name, print_digits, text_of_digit};

@@ -1,8 +1,8 @@
 use Rattle.std.proofs.Common.{ℕ, arith, slice_index, ◌/◌, ◌%◌, ◌<◌, ◌∙◌}
 use Rattle.hex.specs.Hex.{lower_digits}
 use Rattle.hex.proofs.Pairs.{encode_done, encode_step}
-use Rattle.tap_host_line.proofs.Drafts.{digit_printed}
-use Rattle.tap_host_line.proofs.draft.put_digits.Goals as goal
+use Rattle.tap_host_line.proofs.Rooms.{digit_printed}
+use Rattle.tap_host_line.proofs.room.put_digits.Goals as goal
 
 pub loop-at-preserved : goal.loop-at-preserved
 loop-at-preserved c =

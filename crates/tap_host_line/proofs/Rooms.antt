@@ -1,4 +1,4 @@
--- What is printed into the first places of a room: digits, the digits of bytes, and what a draft then has.
+-- What is printed into the first places of a room, after what is there: a text, digits of a name, and the digits of bytes.
 use Rattle.std.proofs.Common.{◌≡◌, ℕ, ◌+◌, ◌-◌, ◌/◌, ◌%◌, ◌<◌, ◌≤◌, List, [], ◌∷◌, ◌++◌, length, take, refl, ap, sym, append_assoc, take-add, take_all, ◌∙◌, arith}
 use Rattle.std.specs.Prelude.{slice_index, slice_range}
 use Rattle.std.proofs.Math.Seq.{take-append-add}
@@ -21,11 +21,10 @@ few_texts [] others = refl
 few_texts (digit ∷ digits) others = ap (λ (text : List ℕ). text_of_digit digit ∷ text) (few_texts digits others)
 
 -- the digits of a name that are printed there
-pub few_printed : (name digits front others text : List ℕ) → digits ≡ name → front ≡ digits → text ≡ text_of_name (front ++ others)
-    → take (length digits) text ≡ text_of_name name
-few_printed name digits front others text of is all =
-    ap (take (length digits)) (all ∙ ap (λ (first : List ℕ). text_of_name (first ++ others)) is)
-    ∙ few_texts digits others ∙ ap text_of_name of
+pub few_printed : (digits front others text : List ℕ) → front ≡ digits → text ≡ text_of_name (front ++ others)
+    → take (length digits) text ≡ text_of_name digits
+few_printed digits front others text is all =
+    ap (take (length digits)) (all ∙ ap (λ (first : List ℕ). text_of_name (first ++ others)) is) ∙ few_texts digits others
 
 -- the digits in their order
 pub digit_printed : (d : ℕ) → d < 16 → text_of_digit d ≡ slice_index lower_digits d
