@@ -5,7 +5,7 @@ use Rattle.std.specs.Prelude.{◌≡◌, false, None}
 use Rattle.tap_scenario.specs.Scenario.{ScenarioValue}
 use Rattle.tap_engine.specs.World.{WorldValue, whole_log}
 use Rattle.tap_carrier.specs.Carrier.{CarrierValue}
-use Rattle.tap_carrier.specs.Kept.{KeepsLog}
+pub use Rattle.tap_carrier.specs.Kept.{KeepsLog}
 use Rattle.tap_lawful.specs.CarriedRuns.{IsCarriedPlayed, IsCarriedScript}
 use Rattle.tap_lawful.specs.Next.{beginning_in}
 

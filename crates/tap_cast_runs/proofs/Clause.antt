@@ -29,7 +29,7 @@ use Rattle.tap_runs.proofs.Frames.{taken_moves}
 use Rattle.tap_runs.proofs.CourseGrows.{grown_system}
 use Rattle.tap_safety_moves.specs.Sound.{Sound}
 use Rattle.tap_safety_moves.proofs.Delivered.{is_delivery}
-use Rattle.tap_lawful.specs.Next.{beginning_in}
+use Rattle.tap_safe_runs.specs.Lawful.{beginning_in}
 use Rattle.tap_safe_runs.specs.Moments.{AtEachMoment}
 use Rattle.tap_safe_runs.specs.Safe.{IsRun}
 use Rattle.tap_safe_runs.proofs.Lawful.{lawful_logs_are_safe}

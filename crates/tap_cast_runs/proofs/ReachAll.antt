@@ -10,7 +10,7 @@ use Rattle.tap_log.specs.declared.record.Record.TheVariants.{CastFrom}
 use Rattle.tap_history.specs.Core.{core_of}
 use Rattle.tap_rule.specs.Sent.{IsAmong}
 use Rattle.tap_runs.specs.Beginning.{Beginning}
-use Rattle.tap_lawful.specs.Next.{beginning_in}
+use Rattle.tap_safe_runs.specs.Lawful.{beginning_in}
 use Rattle.tap_safe_runs.specs.SafeLogs.{OfLawfulLogs}
 use Rattle.tap_safe_runs.specs.Moments.{AtEachMoment}
 use Rattle.tap_safe_runs.specs.Safe.{IsRun}

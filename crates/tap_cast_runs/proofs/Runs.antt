@@ -19,7 +19,7 @@ use Rattle.tap_safe_runs.specs.Safe.{IsRun}
 use Rattle.tap_safe_runs.proofs.Possible.{group_may_move}
 use Rattle.tap_safe_runs.proofs.Safe.{run_at_moment, runs_are_sound, steps_after, steps_before}
 use Rattle.tap_safe_runs.proofs.Lawful.{lawful_logs_are_safe}
-use Rattle.tap_lawful.specs.Next.{beginning_in}
+use Rattle.tap_safe_runs.specs.Lawful.{beginning_in}
 use Rattle.tap_cast_runs.specs.SlotAnswers.{WatchMemory, none_answered}
 use Rattle.tap_cast_runs.specs.Chains.{ChainsLead}
 use Rattle.tap_cast_runs.specs.Had.{AnswersAreHeld}

@@ -17,7 +17,7 @@ use Rattle.tap_rule.specs.Node.{NodeState, link_to}
 use Rattle.tap_rule.specs.Sent.{IsAmong}
 use Rattle.tap_safety.specs.System.{CoversAt}
 use Rattle.tap_runs.specs.Course.{system_of}
-use Rattle.tap_lawful.specs.Lawful.{IsPlayed}
+use Rattle.tap_safe_runs.specs.Lawful.{IsPlayed}
 use Rattle.tap_safe_runs.specs.SafeLogs.{AtMomentsOf}
 use Rattle.tap_cast_runs.specs.SlotAnswers.{Answer, FirstCover, had_primary}
 use Rattle.tap_cast_runs.specs.Chains.{ChainIsTold, ChainLeadsTo}

@@ -19,7 +19,7 @@ use Rattle.tap_safety.specs.System.{AmongFrames, CoversAt, System}
 use Rattle.tap_runs.specs.Beginning.{Beginning}
 use Rattle.tap_runs.specs.Course.{move_of_group, moved_by, system_of}
 use Rattle.tap_scenario.specs.Scenario.{IsScript, ScenarioValue}
-use Rattle.tap_lawful.specs.Lawful.{IsPlayed}
+use Rattle.tap_safe_runs.specs.Lawful.{IsPlayed}
 use Rattle.tap_safe_runs.specs.SafeLogs.{AtMomentsOf}
 use Rattle.tap_safe_runs.specs.Safe.{IsRun}
 use Rattle.tap_cast_runs.specs.SlotAnswers.{Answer, WatchMemory, had_primary, none_answered}

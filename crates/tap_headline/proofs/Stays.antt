@@ -24,8 +24,7 @@ use Rattle.tap_safety.specs.System.{CoversAt, IsUnderWay, System}
 use Rattle.tap_runs.specs.Beginning.{Beginning, begin_record}
 use Rattle.tap_runs.specs.Course.{system_of}
 use Rattle.tap_runs.specs.Observed.{nodes_of, pair_line}
-use Rattle.tap_pointer_moves.specs.Paths.{HoldsPair}
-use Rattle.tap_pointer_runs.specs.Paths.{IsPublishedIn, PointersOnTheirPaths}
+use Rattle.tap_pointer_runs.specs.Paths.{HoldsPair, IsPublishedIn, PointersOnTheirPaths}
 use Rattle.tap_pointer_runs.specs.Alone.{LookupsAloneAreExact}
 use Rattle.tap_pointer_runs.specs.AnsweredOnce.{LookupsAreAnswered}
 use Rattle.tap_pointer_runs.specs.LookupAnswers.{AnswersWerePublished}

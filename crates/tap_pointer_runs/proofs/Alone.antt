@@ -31,7 +31,7 @@ use Rattle.tap_runs.proofs.CourseGrows.{by_groups}
 use Rattle.tap_runs.proofs.Nodes.{name_at, start_in}
 use Rattle.tap_runs.proofs.Within.{is_accepted}
 use Rattle.tap_safety_moves.specs.Sound.{Sound}
-use Rattle.tap_lawful.specs.Next.{beginning_in}
+use Rattle.tap_safe_runs.specs.Lawful.{beginning_in}
 use Rattle.tap_safe_runs.specs.SafeLogs.{OfLawfulLogs}
 use Rattle.tap_safe_runs.specs.Moments.{AtEachMoment}
 use Rattle.tap_safe_runs.specs.Safe.{IsRun}

@@ -23,7 +23,7 @@ use Rattle.tap_runs.proofs.CourseGrows.{by_groups, grown_system, start_system}
 use Rattle.tap_runs.proofs.Frames.{starting_moves, step_moves, taken_moves}
 use Rattle.tap_runs.proofs.Within.{IsIdle, IsStarting, step_kind}
 use Rattle.tap_safety_moves.specs.Sound.{Sound}
-use Rattle.tap_lawful.specs.Next.{beginning_in}
+use Rattle.tap_safe_runs.specs.Lawful.{beginning_in}
 use Rattle.tap_safe_runs.specs.SafeLogs.{OfLawfulLogs}
 use Rattle.tap_safe_runs.specs.Moments.{AtEachMoment}
 use Rattle.tap_safe_runs.specs.Safe.{IsRun}

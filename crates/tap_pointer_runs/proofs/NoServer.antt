@@ -20,7 +20,7 @@ use Rattle.tap_runs.specs.Named.{HaveNames}
 use Rattle.tap_runs.specs.Starts.{announced}
 use Rattle.tap_runs.proofs.CourseGrows.{by_groups, start_system, whole}
 use Rattle.tap_runs.proofs.Within.{IsWhole}
-use Rattle.tap_lawful.specs.Next.{beginning_in}
+use Rattle.tap_safe_runs.specs.Lawful.{beginning_in}
 use Rattle.tap_safe_runs.specs.SafeLogs.{OfLawfulLogs}
 use Rattle.tap_safe_runs.specs.Moments.{AtEachMoment}
 use Rattle.tap_safe_runs.specs.Safe.{IsRun}

@@ -34,7 +34,7 @@ use Rattle.tap_runs.proofs.CourseGrows.{by_groups, course_grows_holds, grown_sys
 use Rattle.tap_runs.proofs.Within.{IsIdle, step_kind, step_within, taken_within}
 use Rattle.tap_safety_moves.specs.Sound.{Sound}
 use Rattle.tap_safety_moves.proofs.Members.{node_is_member}
-use Rattle.tap_lawful.specs.Next.{beginning_in}
+use Rattle.tap_safe_runs.specs.Lawful.{beginning_in}
 use Rattle.tap_safe_runs.specs.SafeLogs.{OfLawfulLogs}
 use Rattle.tap_safe_runs.specs.Moments.{AtEachMoment}
 use Rattle.tap_safe_runs.specs.Safe.{IsRun}

@@ -15,7 +15,7 @@ use Rattle.tap_runs.specs.Course.{system_of}
 use Rattle.tap_runs.specs.Observed.{pair_line}
 use Rattle.tap_safe_runs.specs.Moments.{tables_of}
 use Rattle.tap_pointer_moves.specs.Ever.{AreOfPublished}
-use Rattle.tap_pointer_moves.specs.Paths.{HoldsPair}
+pub use Rattle.tap_pointer_moves.specs.Paths.{HoldsPair}
 use Rattle.tap_pointer_moves.specs.Publications.{is_served}
 use Rattle.tap_pointer_moves.specs.LaysTold.{PointersStand}
 

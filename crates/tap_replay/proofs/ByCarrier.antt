@@ -1,5 +1,5 @@
 -- What a player has run and what its turns make of it, by whether the run is carried.
--- Cited above: left_nodes, may_turn, player_log
+-- Cited above: left_nodes, player_log
 use Rattle.std.proofs.Common.{◌≡◌, inl, inr, ◌<◌, Bool, true, false, List, MatchOption, Option, None, Some, refl, ap, sym, subst, ◌∙◌}
 use Rattle.std.proofs.lemmas.Bool.{false≢true}
 use Rattle.tap_scenario.specs.Scenario.{IsScript, ScenarioValue}

@@ -14,11 +14,10 @@ use Rattle.tap_log.proofs.MoreRecords.{filter_map-same}
 use Rattle.tap_history.specs.Refusals.{first_refusal}
 use Rattle.tap_packets.specs.Groups.{arrival_group}
 use Rattle.tap_runs.specs.Beginning.{Beginning}
-use Rattle.tap_carrier.specs.Kept.{KeepsLog}
+use Rattle.tap_carried_world.specs.Value.{KeepsLog}
 use Rattle.tap_engine.specs.World.{WorldValue, whole_log}
-use Rattle.tap_lawful.specs.CarriedDue.{carried_due}
+use Rattle.tap_lawful.specs.CarriedDue.{Due, carried_due}
 use Rattle.tap_lawful.specs.CarriedDue.Due.{ArrivalDue, TickDue}
-use Rattle.tap_lawful.specs.CarriedDue.{Due}
 use Rattle.tap_lawful.specs.CarriedNext.{begun_group, carried_group_after, carried_next_group, reduced_taken_records}
 use Rattle.tap_lawful.specs.CarriedRuns.{IsCarriedCut, IsCarriedFinished, IsCarriedPlayed, IsCarriedScript, IsCarriedSpent}
 use Rattle.tap_lawful.specs.Next.{beginning_in, begun_count, next_step}

@@ -5,6 +5,7 @@ mod Roots
 mod Adding
 mod Alike
 mod Turning
+pub mod Printing
 mod Lawfulness
 mod CarriedChoosing
 mod CarriedGroups

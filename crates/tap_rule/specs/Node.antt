@@ -14,10 +14,14 @@ use Rattle.tap_table.specs.Ties.{TiesValue}
 use Rattle.tap_table.specs.Members.{ties_at_rest}
 use Rattle.tap_session.specs.Session.{Session, SessionNumber, SessionsValue}
 use Rattle.tap_session.specs.Sessions.{session_of}
-use Rattle.tap_multicast.specs.Covers.{CoversValue, level_kept}
+use Rattle.tap_multicast.specs.Covers.{CoversValue}
 use Rattle.tap_join.specs.Joining.{started_joining}
 use Rattle.tap_pointer.specs.Pointers.{PointersValue, no_pointers}
 use Rattle.tap_cast.specs.Casts.{CastNumber, CastsValue}
+-- passed on to those who look at a node's parts through its state alone
+pub use Rattle.tap_multicast.specs.Covers.{level_kept}
+pub use Rattle.tap_join.specs.Hello.{hello_names}
+pub use Rattle.tap_cast.specs.Casts.{level_of_cast}
 
 -- what a node is: it joins, takes full part, leaves in order, has left, or has given up its join
 pub data Status : Type 0 where

@@ -4,8 +4,8 @@
 use Rattle.std.specs.Prelude.{List}
 use Rattle.tap_scenario.specs.Scenario.{IsScript, ScenarioValue}
 use Rattle.tap_log.specs.declared.record.Record.{Record}
-use Rattle.tap_lawful.specs.Next.{beginning_in}
-use Rattle.tap_lawful.specs.Lawful.{IsPlayed}
+pub use Rattle.tap_lawful.specs.Next.{beginning_in}
+pub use Rattle.tap_lawful.specs.Lawful.{IsPlayed}
 use Rattle.tap_safe_runs.specs.Safe.{IsRun}
 use Rattle.tap_safe_runs.specs.SafeLogs.{IsSafeThroughout}
 

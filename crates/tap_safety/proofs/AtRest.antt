@@ -28,8 +28,7 @@ use Rattle.tap_table.proofs.Held.{holds_exactly}
 use Rattle.tap_table.proofs.Holding.{word_of as holder_word}
 use Rattle.tap_table.proofs.Least.{is_slot-from, is_slot-to}
 use Rattle.tap_table.proofs.Near.{tied_itself, tied_names}
-use Rattle.tap_multicast.specs.Covers.{level_kept}
-use Rattle.tap_rule.specs.Node.{NodeState, Status, join_session_at, link_to, member_at_rest}
+use Rattle.tap_rule.specs.Node.{NodeState, Status, join_session_at, level_kept, link_to, member_at_rest}
 use Rattle.tap_rule.specs.Node.Status.{Ceased as CeasedStatus, Core, Gone, Joining, Leaving}
 use Rattle.tap_safety.specs.AtRest.{AreMembers, InvariantAtRest, system_at_rest, word_at_rest}
 use Rattle.tap_safety.specs.Bookkeeping.{HasCore}

@@ -3,8 +3,7 @@ use Rattle.std.specs.Prelude.{◌≡◌, ℕ, ◌+◌, ◌<◌, List}
 use Rattle.tap_name.specs.Settings.{SettingsValue}
 use Rattle.tap_name.specs.Name.{IsName}
 use Rattle.tap_name.specs.Prefix.{lcp}
-use Rattle.tap_rule.specs.Node.{NodeState, link_to}
-use Rattle.tap_multicast.specs.Covers.{level_kept}
+use Rattle.tap_rule.specs.Node.{NodeState, level_kept, link_to}
 use Rattle.tap_rule.specs.Node.Status.{Joining, Core}
 use Rattle.tap_wire.specs.declared.frame.Frame.{Frame}
 use Rattle.tap_wire.specs.declared.frame.Body.TheVariants.{Done}

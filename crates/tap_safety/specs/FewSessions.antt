@@ -2,8 +2,7 @@
 use Rattle.std.specs.Prelude.{◌≡◌, ℕ, ◌+◌, ◌-◌, ◌≤◌, Bool, if◌then◌else◌, List, ◌⊎◌, length, Option, None, Some}
 use Rattle.tap_name.specs.Names.{has_name}
 use Rattle.tap_name.specs.Settings.{SettingsValue}
-use Rattle.tap_multicast.specs.Covers.{level_kept}
-use Rattle.tap_rule.specs.Node.{NodeState, Status}
+use Rattle.tap_rule.specs.Node.{NodeState, Status, level_kept}
 use Rattle.tap_rule.specs.Node.Status.{Joining}
 use Rattle.tap_rule.specs.Sent.{IsAmong}
 use Rattle.tap_safety.specs.AtRest.{AreMembers, system_at_rest}

@@ -3,9 +3,8 @@ use Rattle.std.specs.Prelude.{◌≡◌, ℕ, ◌≤◌, false, List, [], None, 
 use Rattle.tap_name.specs.Name.{IsName}
 use Rattle.tap_name.specs.Settings.{SettingsValue}
 use Rattle.tap_name.specs.Word.{IsWord}
-use Rattle.tap_cast.specs.Casts.{level_of_cast}
+use Rattle.tap_rule.specs.Node.{NodeState, level_of_cast}
 use Rattle.tap_wire.specs.declared.frame.Frame.{Frame}
-use Rattle.tap_rule.specs.Node.{NodeState}
 use Rattle.tap_rule.specs.Node.Status.{Joining, Core}
 use Rattle.tap_rule.specs.Event.{Start}
 use Rattle.tap_rule.specs.Event.Start.{Abandon, Cast, Find, Join, Leave, Publish, Withdraw}

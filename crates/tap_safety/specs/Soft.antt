@@ -3,11 +3,10 @@ use Rattle.std.specs.Prelude.{◌≡◌, ℕ, true, false, List, ◌⊎◌, Opti
 use Rattle.tap_name.specs.declared.slot.Offered.{Offered}
 use Rattle.tap_link.specs.declared.kind.Kind.{Kind}
 use Rattle.tap_link.specs.declared.kind.Kind.TheVariants.{Pin, Settled, Leaving as LeavingKind}
-use Rattle.tap_join.specs.Hello.{hello_names}
+use Rattle.tap_rule.specs.Node.{NodeState, hello_names, link_to}
 use Rattle.tap_wire.specs.declared.frame.Body.{Body}
 use Rattle.tap_wire.specs.declared.frame.Body.TheVariants.{Hello, Leave, Release, Seek, Tell}
 use Rattle.tap_wire.specs.declared.frame.Frame.{Frame}
-use Rattle.tap_rule.specs.Node.{NodeState, link_to}
 use Rattle.tap_rule.specs.Node.Status.{Ceased as CeasedStatus}
 use Rattle.tap_rule.specs.Reaction.{Message}
 use Rattle.tap_rule.specs.Sent.{IsAmong}

@@ -7,8 +7,7 @@ ghost use Rattle.tap_report.specs.declared.mode.Mode.{Mode as ReportMode};
 ghost use Rattle.tap_scenario.specs.Scenario.{IsScript};
 
 use tap_io::Sink;
-use tap_printing::turns_and_put;
-use tap_replay::{End, Player, Turned};
+use tap_replay::{End, Player, Turned, turns_and_put};
 use tap_report::Reporter;
 use tap_scenario::Scenario;
 

@@ -2,7 +2,7 @@ use Rattle.std.proofs.Common.{◌≡◌, ◌≤◌, None, length, take}
 use Rattle.tap_engine.specs.World.{whole_log}
 use Rattle.tap_lawful.specs.RunLaws.{left_in}
 use Rattle.tap_replay.specs.Runs.{HasPlayed}
-use Rattle.tap_printing.proofs.turns.take_turns.Given as goal
+use Rattle.tap_replay.proofs.printing.take_turns.Given as goal
 
 -- the run goes on, its log begins with the one before, and no more turns are left than then
 abbrev pub invariant-loop-turned : goal.invariant-loop-turned

@@ -9,9 +9,10 @@ ghost use Rattle.tap_report.specs.Text.{IsPrintableLog};
 ghost use Rattle.tap_report.specs.declared.mode.Mode.{Mode as ReportMode};
 ghost use Rattle.tap_scenario.specs.Scenario.{IsScript};
 
+use crate::end::Turned;
+use crate::player::Player;
 use tap_io::Sink;
 use tap_log::Log;
-use tap_replay::{Player, Turned};
 use tap_report::Reporter;
 use tap_scenario::Scenario;
 

@@ -2,7 +2,7 @@ use Rattle.std.proofs.Common.{◌≡◌, ◌∙◌, ℕ, Option, ap, arith, drop
 use Rattle.tap_name.specs.Settings.{SettingsValue}
 use Rattle.tap_report.specs.Reporter.{ReporterValue}
 use Rattle.tap_report.proofs.PiecewiseLemmas.{ArePrintable-rest, BeginsAfter-rest, Reports-rest, rest_of, settings_so_far-rest}
-use Rattle.tap_printing.proofs.turns.put_from.Goals as goal
+use Rattle.tap_replay.proofs.printing.put_from.Goals as goal
 
 pub put_all-requires-clause-begins : goal.put_all-requires-clause-begins
 put_all-requires-clause-begins g c =
