@@ -51,7 +51,7 @@ def faults(found):
     pairs = [(words, found[words], count) for words, count in known.items()]
     grown = growths({words: found[words] for words in known})
     pairs += [(f"growth of {name}", grown[name], growth) for name, growth in growths(known).items()]
-    return lacking + [f"{what}: {now:,.2f}, where {was:,.2f} is stored" for what, now, was in pairs if now > MOST * was]
+    return lacking + [f"{what}: {now:,.2f}, and {was:,.2f} is stored" for what, now, was in pairs if now > MOST * was]
 
 
 def judge(found):
@@ -59,5 +59,5 @@ def judge(found):
     amiss = faults(found)
     for line in amiss:
         print(line)
-    print(f"{len(found)} counted, {len(amiss)} not as stored or less")
+    print(f"{len(found)} counted, {len(amiss)} faults")
     return min(1, len(amiss))
