@@ -31,7 +31,7 @@ use tap_wire::decode_head;
 pub enum Going {
     /// It takes the next line.
     On,
-    /// It has no room for one more step: no further line is to be handed in.
+    /// It has no room for one more step, or no numbers for the frames of one: no further line is to be handed in.
     Full,
 }
 

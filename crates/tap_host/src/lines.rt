@@ -14,7 +14,7 @@ const MOST_LINE: usize = 32_768;
 // The most bytes that one read gives.
 const PIECE: usize = 4_096;
 
-// What was read, and no line was taken of yet, and room for the next piece. Contracts see the bytes.
+// What was read and not taken yet, and room for the next piece. Contracts see the bytes.
 #[derive(Drop)]
 pub(crate) struct Lines {
     bytes: Vec<u8>,

@@ -93,7 +93,7 @@ impl Mail {
         ensures text { OnOk result (out.new.items ≡ out.old.items
             ++ text_of_packet to ((mail_seen self.old).last to + 1) frame) }
     {
-        // Each frame that awaits has a number that was given before.
+        // It has no effect. The proof reads from this call that each frame that awaits has a number that was given before.
         let _given = self.outbox.awaiting();
         let number = self.outbox.next();
         let seq = self.outbox.send(to, number)?;

@@ -67,7 +67,7 @@ pub(crate) struct Run {
 }
 
 impl Run {
-    // Takes lines to the end. There are no more numbers than this for them.
+    // Takes lines to the end. Lines are numbered in 64 bits, so it ends after 2^64 - 1 of them.
     fn to_end<S: Source, K: Sink>(&mut self, source: &mut S, sink: &mut K) -> HostStatus
         requires { self.old.lines ≡ [] }
         ensures { HasServed (host_seen self.old.host) (S.state source.old) (S.state source.new) (K.state sink.old) (K.state sink.new) result }

@@ -18,7 +18,7 @@ pub enum HostStatus {
     Cut,
     /// A write failed.
     WriteFault,
-    /// The node has no room for one more step, or 2^64 - 1 lines were taken.
+    /// The node has no room for one more step or no numbers for the frames of one, or 2^64 - 1 lines were taken.
     NoRoom,
     /// Memory was refused.
     NoMemory,

@@ -29,7 +29,7 @@ pub struct Asked {
 /// Rule: docs/NETWORK.md, "The process of a node".
 #[derive(Clone, Copy, Debug, PartialEq, Eq)]
 pub enum WordsRefusal {
-    /// They aren't words of the program, or they ask for help.
+    /// They aren't words of the program, or they ask for help or the version.
     Usage,
     /// Memory was refused.
     NoMemory,

@@ -1,7 +1,7 @@
-//! What a node's process reads and writes: the words of its command line, its lines in, and the texts of its lines out.
+//! What a node's process reads and writes: the words of its command line, help and the version, its lines in, and the texts of its lines out.
 //!
-//! A line in is read exactly: [`read_line`] gives the one line that a text is, or none. Each `put` adds one whole line at the end of a
-//! vector.
+//! A line in is read exactly: [`read_line`] gives the one line that a text is, or none. Each `put` adds whole lines at the end of a vector:
+//! one, but [`put_news`] as many as there are news. If memory is refused, what the vector then has isn't said.
 #![tactic(auto)]
 
 mod asked;

@@ -65,7 +65,7 @@ pub fn put_ack(out: &mut Vec<u8>, to: &Name, seq: u32) -> Result<(), NoMemory>
     Ok(())
 }
 
-/// Adds the line that a start was taken.
+/// Adds the line that a start, or a line of members, was taken.
 ///
 /// Rule: docs/NETWORK.md, "Lines".
 pub fn put_begun(out: &mut Vec<u8>) -> Result<(), NoMemory>
@@ -77,7 +77,7 @@ pub fn put_begun(out: &mut Vec<u8>) -> Result<(), NoMemory>
 
 /// Adds the line that the line of this number, from 1, wasn't taken.
 ///
-/// Rule: docs/NETWORK.md, "Lines".
+/// Rule: docs/NETWORK.md, "Why a line is refused".
 pub fn put_refused(out: &mut Vec<u8>, number: u64, why: Why) -> Result<(), NoMemory>
     ensures { OnOk result (out.new.items ≡ out.old.items ++ text_of_refused number why) }
 {

@@ -3,7 +3,7 @@ ghost use Rattle.tap_host_line.specs.Texts.{word_of_why};
 
 /// Why a line in wasn't taken. But for `Room` it has changed nothing.
 ///
-/// Rule: docs/NETWORK.md, "Lines".
+/// Rule: docs/NETWORK.md, "Why a line is refused".
 #[derive(Clone, Copy, Debug, PartialEq, Eq)]
 pub enum Why {
     /// The text is no line.

@@ -34,8 +34,8 @@ abbrev pub HasPrinted : List ℕ → List ℕ → Status → ℕ → Type 0
 HasPrinted printed text before code =
     ((code ≡ exit_code before) × (printed ≡ text)) ⊎ ((code ≡ exit_code WriteFault) × IsFirstPartOf text printed)
 
--- The top call has run these bytes, and has ended for this cause; there is no log, or it is that of a run of the scenario that the bytes spell, with the
--- headline. The text of the log and the fault line were printed, or some first bytes of them.
+-- The top call has run these bytes, and has ended for this cause; there is no log, or it is that of a run of the scenario that the bytes spell,
+-- with the headline. The text of the log and the fault line were printed, or some first bytes of them.
 pub record HasRunText (brief : Bool) (text printed : List ℕ) (code : ℕ) : Type 0 where
   pub before : Status
   pub world : Option WorldValue

@@ -5,7 +5,7 @@ mod Roots
 mod Adding
 mod Alike
 mod Turning
-pub mod Printing
+pub mod Growing
 mod Lawfulness
 mod CarriedChoosing
 mod CarriedGroups

@@ -20,7 +20,7 @@ use tap_scenario::Scenario;
 /// by `reports`, from whichever state of the sink the reporter began at: the texts of all records, or, after the first write that failed, some
 /// first bytes of them.
 ///
-/// Condition: the log can be printed, and has fewer than 4,000,000,000 records.
+/// Condition: the log can be printed, has fewer than 4,000,000,000 records, and not fewer than the place says.
 ///
 /// Rule: docs/FORMATS.md, "The printed text".
 pub fn put_from<K: Sink>(log: &Log, from: usize, reporter: &mut Reporter, sink: &mut K)
@@ -44,7 +44,7 @@ pub fn put_from<K: Sink>(log: &Log, from: usize, reporter: &mut Reporter, sink: 
 ///
 /// Records that are put together are written in fewer pieces. Whoever asks for one record has each turn put.
 ///
-/// Condition: the run isn't over, and all records so far were put to the reporter.
+/// Condition: the player plays this scenario, its run isn't over, and all records so far were put to the reporter.
 ///
 /// Rule: docs/FORMATS.md, "The printed text".
 pub fn turns_and_put<K: Sink>(

@@ -208,8 +208,8 @@ pub fn run<S: Source, K: Sink>(
 
     // The headline: there is no log, or it is that of a run. At each of its moments, however the run has ended, there is a core node, no table
     // has a hole, each walk finds the one root, and at rest each node that is present is core, who departed is gone, each lookup is answered and
-    // pointers stand on their paths; a lookup made alone from a rest is exact, and what is said of other lookups, of root sets, casts, sessions, watch
-    // lists and the frames of joins holds.
+    // pointers stand on their paths; a lookup made alone from a rest is exact, and what is said of other lookups, of root sets, casts, sessions,
+    // watch lists and the frames of joins holds.
     ensures headline { (log_of result.world ≡ []) ⊎ IfSome (asked_by (map string_bytes words.now.items))
         (λ asked. IsLogAsked asked (S.state source.old) (S.state source.new) (log_of result.world)) }
 {

@@ -1,5 +1,5 @@
-//! Runs one node: reads lines from standard input, after one for its members if a file names them, and prints the lines that each brings. Or it prints
-//! help or its version.
+//! Runs one node: reads lines from standard input, after one for its members if a file names them, and prints the lines that each brings. Or it
+//! prints help or its version.
 #![tactic(auto)]
 
 use std::fs;
@@ -43,7 +43,7 @@ fn words_of(rt: &HostRuntime) -> Result<Vec<String>, HostStatus> {
     Ok(words)
 }
 
-// The line `members A B ..` of the names in a file, which stand in lines of their own or with spaces between them.
+// The line `members A B ..` of the names in a file, which have spaces, tabs or line ends between them.
 fn members_line(rt: &HostRuntime, file: &str) -> Result<Vec<u8>, HostStatus> {
     let names = fs::read(rt, file).map_err(unread_file)?;
     let mut line = Vec::new(rt.alloc());

@@ -2,7 +2,7 @@ use Rattle.std.proofs.Common.{◌≡◌, ◌∙◌, ap, length, subst, sym}
 use Rattle.tap_engine.specs.World.{whole_log}
 use Rattle.tap_replay.specs.Player.{over_by}
 use Rattle.tap_own_scripts.proofs.Fronts.{size_of}
-use Rattle.tap_replay.proofs.Printing.{turn_front}
+use Rattle.tap_replay.proofs.Growing.{turn_front}
 use Rattle.tap_judge.specs.Comparing.{SameUntil}
 use Rattle.tap_judge.proofs.Players.{same_verdict, said, turn_says, unsaid}
 use Rattle.tap_judge.proofs.Verdicts.{Says}

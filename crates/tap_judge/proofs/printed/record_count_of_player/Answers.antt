@@ -1,6 +1,6 @@
 use Rattle.std.proofs.Common.{◌≡◌, ◌∙◌, [], None, ap, arith, length, subst, sym}
 use Rattle.tap_engine.specs.World.{whole_log}
-use Rattle.tap_replay.proofs.Printing.{player_prints}
+use Rattle.tap_replay.proofs.Growing.{player_prints}
 use Rattle.tap_report.specs.Reporter.{Reports}
 use Rattle.tap_report.specs.Text.{texts_after}
 use Rattle.tap_report.specs.Written.{WritesText}

@@ -2,7 +2,7 @@ use Rattle.std.proofs.Common.{◌∙◌, ap, arith}
 use Rattle.tap_engine.specs.World.{whole_log}
 use Rattle.tap_replay.proofs.ByCarrier.{may_turn}
 use Rattle.tap_replay.specs.Player.{over_by}
-use Rattle.tap_replay.proofs.Printing.{front_on, turn_front}
+use Rattle.tap_replay.proofs.Growing.{front_on, turn_front}
 use Rattle.tap_replay.proofs.printing.take_turns.Goals as goal
 
 pub turn-turned-requires : goal.turn-turned-requires

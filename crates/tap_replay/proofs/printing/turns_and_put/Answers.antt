@@ -3,7 +3,7 @@ use Rattle.std.specs.Prelude.{fold}
 use Rattle.tap_engine.specs.World.{whole_log}
 use Rattle.tap_log.specs.declared.record.Record.{Record}
 use Rattle.tap_report.specs.Reporter.{Reports, settings_after}
-use Rattle.tap_replay.proofs.Printing.{front_within, player_prints}
+use Rattle.tap_replay.proofs.Growing.{front_within, player_prints}
 use Rattle.tap_replay.proofs.printing.turns_and_put.Goals as goal
 
 pub put_from-requires-clause-printable : goal.put_from-requires-clause-printable

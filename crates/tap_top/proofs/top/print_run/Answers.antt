@@ -1,7 +1,7 @@
 use Rattle.std.proofs.Common.{◌≡◌, [], refl, sym, ◌∙◌}
 use Rattle.tap_engine.specs.World.{whole_log}
 use Rattle.tap_io.specs.BufferedSink.{buffered_state, state_over}
-use Rattle.tap_replay.proofs.Printing.{player_prints}
+use Rattle.tap_replay.proofs.Growing.{player_prints}
 use Rattle.tap_report.specs.Reporter.{Reports}
 use Rattle.tap_report.proofs.ReportsLemmas.{Reports-finish, Reports-new}
 use Rattle.tap_report.proofs.WritesLemmas.{WritesText-then}
