@@ -8,6 +8,10 @@ abbrev pub halves : List ℕ → List ℕ
 halves [] = []
 halves (byte ∷ bytes) = byte / 16 ∷ byte % 16 ∷ halves bytes
 
+-- both halves of a byte as one number: the high one, and 256 times the low one
+abbrev pub both_halves : ℕ → ℕ
+both_halves byte = byte / 16 + 256 * (byte % 16)
+
 -- two digits a byte
 abbrev pub joined : List ℕ → List ℕ
 joined [] = []

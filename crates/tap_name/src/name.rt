@@ -10,7 +10,7 @@ ghost use Rattle.std.specs.Int.{from_be_bytes, w32, w64};
 ghost use Rattle.std.specs.List.{common_prefix_len};
 ghost use Rattle.tap_name.specs.Digits.{text_of_digit};
 ghost use Rattle.tap_name.specs.Name.{IsName, name_of_digits, text_of_name};
-ghost use Rattle.tap_name.specs.Packed.{halves, head_from, joined, packed};
+ghost use Rattle.tap_name.specs.Packed.{both_halves, halves, head_from, joined, packed};
 ghost use Rattle.tap_name.specs.Padded.{padded};
 ghost use Rattle.tap_name.specs.Prefix.{lcp};
 
@@ -189,15 +189,30 @@ impl Name {
     }
 }
 
+// Both halves of each byte as one number: the first one, and 256 times the second. So many bytes are taken apart at once.
+#[inline(always)]
+fn both_halves(bytes: &[u8]) -> [u16; 20]
+    requires { length bytes.now ≤ 20 }
+    ensures { (at : ℕ) → at < length bytes.now → slice_index result at ≡ both_halves (slice_index bytes.now at) }
+{
+    let mut both = [0; 20];
+    for at in 0..bytes.len() {
+        both[at] = u16::from(bytes[at]) / 16 + 256 * (u16::from(bytes[at]) % 16);
+    }
+    both
+}
+
 // Writes the halves of bytes.
 #[inline(always)]
 fn put_halves(bytes: &[u8], digits: &mut [u8])
-    requires { length digits.old ≡ 2 * length bytes.now }
+    requires few { length bytes.now ≤ 20 }
+    requires places { length digits.old ≡ 2 * length bytes.now }
     ensures { digits.new ≡ halves bytes.now }
 {
+    let both = both_halves(bytes);
     for at in 0..bytes.len() {
-        digits[2 * at] = bytes[at] / 16;
-        digits[2 * at + 1] = bytes[at] % 16;
+        digits[2 * at] = (both[at] % 256) as u8;
+        digits[2 * at + 1] = (both[at] / 256) as u8;
     }
 }
 
