@@ -5,8 +5,14 @@ use Rattle.std.proofs.lemmas.Bool.{cases_Bool}
 use Rattle.std.proofs.lemmas.List.{take_more}
 use Rattle.std.proofs.lemmas.Slice.Eq.{bytes_eq-Decides}
 use Rattle.tap_name.specs.Names.{has_name}
+use Rattle.tap_name.specs.Order.{sorted}
+use Rattle.tap_name.proofs.Names.{same_tests}
+use Rattle.tap_name.proofs.Membership.{has_name-Decides}
+use Rattle.tap_name.proofs.Sorted.{among-sorted, sorted-permutation, sorted-same}
+use Rattle.tap_table.specs.Members.{holders_at_rest, table_at_rest}
 use Rattle.tap_name.specs.Settings.{SettingsValue}
-use Rattle.tap_rule.specs.Node.{member_at_rest, name_of, settings_of}
+use Rattle.tap_rule.specs.Node.{joiner, member_at_rest, name_of, settings_of}
+use Rattle.tap_rule.specs.Node.Status.{Core}
 use Rattle.tap_node.specs.Node.{NodeValue, running}
 use Rattle.indexmap.specs.IndexMap.{IndexMap, Updates}
 use Rattle.tap_overlay.specs.Overlay.{HasNameAndSettings, HaveOwnNames, member_at, node_among}
@@ -62,6 +68,21 @@ made_more p members i member node before after within is rest updates so_far =
     let Made : List (List ℕ) → Type 0 = λ names. AreMade p members names after.entries in
     let Updated : NodeValue → Type 0 = λ n. Updates bytes_eq before after member (Some n) in
     subst Made (sym more) (one_more p members (take i members) member before after (subst Updated rest updates) so_far)
+
+-- a member is at rest as it is among the members in their order
+pub sorted_member : (p : SettingsValue) (members : List (List ℕ)) (name : List ℕ)
+    → member_at p (sorted members) name ≡ member_at p members name
+sorted_member p members name =
+    let there : has_name (sorted members) name ≡ has_name members name = same_tests (has_name (sorted members) name) (has_name members name)
+    (λ h. (has_name-Decides members name).1 ((among-sorted members name).1 ((has_name-Decides (sorted members) name).0 h)))
+    (λ h. (has_name-Decides (sorted members) name).1 ((among-sorted members name).0 ((has_name-Decides members name).0 h))) in
+    let node : List (List ℕ) → NodeValue = λ names. running (record (joiner p name) {
+      status = Core;
+      ties = record { table = table_at_rest p name names; holders = holders_at_rest p name names names };
+    }) in
+    ap (λ (b : Bool). if b then Some (node (sorted (sorted members))) else None) there
+    ∙ ap (λ (names : List (List ℕ)). if has_name members name then Some (node names) else None)
+    (sym (sorted-same members (sorted members) (sorted-permutation members)))
 
 -- each member has its own name
 pub rest_named : (p : SettingsValue) (members : List (List ℕ)) (nodes : List (List ℕ × NodeValue))

@@ -4,7 +4,7 @@ ghost use Rattle.std.specs.Map.{keys_of};
 ghost use Rattle.std.specs.Option.{ForSome, option_copied};
 ghost use Rattle.tap_name.specs.Distinct.{AreDistinct};
 ghost use Rattle.tap_name.specs.Name.{IsName};
-ghost use Rattle.tap_name.specs.Order.{name_cmp};
+ghost use Rattle.tap_name.specs.Order.{name_cmp, sorted};
 ghost use Rattle.tap_wire.specs.Reading.{frame_of};
 ghost use Rattle.tap_overlay.specs.Overlay.{is_core_node_status, member_at, node_among};
 ghost use Rattle.tap_node.specs.Outcome.{MayWant, empty_turn, start_outcome, take_outcome};
@@ -65,7 +65,9 @@ impl Overlay {
         requires few { length members.now ≤ 256 }
         ensures { IfOk result (IsAtRest settings.now members.now) }
     {
-        let nodes = members_at_rest(alloc, settings, members)?;
+        // In their order each of them is put last, and is quick to find its place among the others.
+        let ascending = sorted(alloc, members)?;
+        let nodes = members_at_rest(alloc, settings, &ascending)?;
         Ok(Overlay {
             alloc,
             settings: *settings,
@@ -204,6 +206,15 @@ fn is_core_status(status: NodeStatus) -> bool
         NodeStatus::Core | NodeStatus::Leaving => true,
         NodeStatus::Joining | NodeStatus::Gone | NodeStatus::Ceased | NodeStatus::Ended => false,
     }
+}
+
+// The members in ascending order.
+fn sorted(alloc: Global, members: &List<Name>) -> Result<List<Name>, NoMemory>
+    ensures { IfOk result (λ names. names ≡ sorted members.now) }
+{
+    let mut names = Vec::from_slice(alloc, members.as_slice())?;
+    names.sort()?;
+    Ok(List::from_vec(names))
 }
 
 // Each of these members at rest, under its name.
