@@ -136,6 +136,18 @@ frame_read p bytes o body opened read =
     (bind_is (in_frame (λ b. fault_of_body (faults.Field b)) (body_at p o.kind (body_start p) bytes)) (framed o) body (framed o body)
     (in_frame_is (λ b. fault_of_body (faults.Field b)) (body_at p o.kind (body_start p) bytes) body read) refl)
 
+-- bytes that are a frame have a head, by how it is read
+opened_as : (p : SettingsValue) (bytes : List ℕ) (read : Result Opening HeadFault) → opening_of p bytes ≡ read → IsOk (frame_of p bytes)
+    → (o : Opening) × (opening_of p bytes ≡ Ok o)
+opened_as p bytes (Ok o) e ok = (o, e)
+opened_as p bytes (Err fault) e ok =
+    let refused : IsOk (in_frame fault_of_head (Err fault) >>= next_body p bytes) =
+    subst IsOk (ap (λ r. in_frame fault_of_head r >>= next_body p bytes) e) ok in
+    absurd cc
+
+pub frame_opened : (p : SettingsValue) (bytes : List ℕ) → IsOk (frame_of p bytes) → (o : Opening) × (opening_of p bytes ≡ Ok o)
+frame_opened p bytes ok = opened_as p bytes (opening_of p bytes) refl ok
+
 -- bytes whose head is refused are no frame
 pub head_refused : (p : SettingsValue) (bytes : List ℕ) (fault : HeadFault) (frame : Frame) → opening_of p bytes ≡ Err fault
     → frame_of p bytes ≡ Ok frame → ⊥

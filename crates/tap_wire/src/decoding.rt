@@ -1,4 +1,4 @@
-ghost use Rattle.std.specs.Prelude.{◌≡◌, ◌≢◌, ◌==◌, ◌+◌, ◌-◌, ◌≤◌, ◌<◌, ◌↔◌, ◌&&◌, not, length, take, drop, slice_index, All, IsTrue, IsOkAnd, IfOk, OnOk, IfErr, IfSome, Ok, Err};
+ghost use Rattle.std.specs.Prelude.{◌≡◌, ◌≢◌, ◌==◌, ◌+◌, ◌-◌, ◌≤◌, ◌<◌, ◌↔◌, ◌&&◌, not, length, take, drop, slice_index, All, IsTrue, IsOk, IsOkAnd, IfOk, OnOk, OnErr, IfErr, IfSome, Ok, Err};
 ghost use Rattle.std.specs.Bool.{OnTrue};
 ghost use Rattle.tap_name.specs.Name.{IsName};
 ghost use Rattle.tap_name.specs.Settings.{AreWithinLimits};
@@ -13,11 +13,12 @@ ghost use Rattle.tap_wire.specs.Reading.{names_at, sized, opening_of, head_of_fr
 ghost use Rattle.tap_wire.specs.Names.{sender_in, receiver_in, HeadGives};
 ghost use Rattle.tap_wire.specs.Spelling.{IsFrame, IsTyped, spelling};
 
-use crate::fault::{HeadFault, WireFault};
+use crate::fault::{BodyFault, HeadFault, WireFault};
 use crate::fields::{are_names, bad_digit_unless, digits_at, name_of, u16_at};
 use crate::frame::{Frame, Head};
 use crate::kind::Kind;
 use crate::layout::{body_start, head_len, is_long, version_of};
+use crate::memory::NoMemory;
 use crate::opening::Opening;
 use crate::reading::body_at;
 use std::alloc::Global;
@@ -239,4 +240,49 @@ pub fn decode(alloc: Global, settings: &Settings, bytes: &[u8]) -> Result<Frame,
         to: receiver_in(settings, bytes),
         body,
     })
+}
+
+// The kind of bytes that are a frame.
+#[inline(always)]
+fn known_kind(settings: &Settings, bytes: &[u8]) -> Kind
+    requires { IsOk (frame_of settings.now bytes.now) }
+    ensures value { HeadGives settings.now bytes.now (Ok result) (opening_of settings.now bytes.now) }
+    ensures long { IsTrue (is_length settings.now result (length bytes.now - body_start settings.now)) }
+    ensures within { body_start settings.now ≤ length bytes.now }
+{
+    match Kind::of_code(bytes[1]) {
+        Some(kind) => kind,
+        None => unreachable!(),
+    }
+}
+
+/// Puts the frame that the bytes spell, as `decode` reads it, in the place of another one. The bytes are a frame: what their head says isn't
+/// tested. Want of memory may come in place of a frame with slots or links alone, and then the other one stays.
+///
+/// Rule: docs/FORMATS.md, "Frames".
+pub fn decode_into(
+    alloc: Global,
+    settings: &Settings,
+    bytes: &[u8],
+    frame: &mut Frame,
+) -> Result<(), NoMemory>
+    requires { IsOk (frame_of settings.now bytes.now) }
+    ensures exact { OnOk result (frame_of settings.now bytes.now ≡ Ok frame.new) }
+    // The bytes are the spelling of what is read, which keeps the rules.
+    ensures found { OnOk result (IsFrame settings.now frame.new × (bytes.now ≡ spelling settings.now frame.new)) }
+    ensures memory { OnErr result (WantsMemory (frame_of settings.now bytes.now)) }
+    ensures same { OnErr result (frame.new ≡ frame.old) }
+{
+    let start = body_start(settings);
+    let kind = known_kind(settings, bytes);
+    match body_at(alloc, settings, kind, bytes, start) {
+        Ok(body) => {
+            frame.from = sender_in(settings, bytes);
+            frame.to = receiver_in(settings, bytes);
+            frame.body = body;
+            Ok(())
+        }
+        Err(BodyFault::NoMemory) => Err(NoMemory),
+        Err(BodyFault::Field(_)) => unreachable!(),
+    }
 }

@@ -17,7 +17,7 @@ mod reading;
 mod writing;
 
 pub use bytes::Bytes;
-pub use decoding::{decode, decode_head};
+pub use decoding::{decode, decode_head, decode_into};
 pub use encoding::{encode, encode_tell};
 pub use fault::{HeadFault, WireFault};
 pub use frame::{Body, Frame, Head, TellFields};
