@@ -1,8 +1,9 @@
-ghost use Rattle.std.specs.Prelude.{◌≡◌};
+ghost use Rattle.std.specs.Prelude.{◌≡◌, []};
 ghost use Rattle.tap_node.specs.Outcome.{empty_turn};
 
 use std::alloc::Global;
 use tap_node_common::{FrameList, News};
+use tap_wire::Bytes;
 
 /// What a step of a node gives.
 ///
@@ -27,5 +28,16 @@ impl Turn {
             sent: FrameList::new(alloc),
             news: News::Nothing,
         }
+    }
+
+    /// Drops the frames. Those that are added from now on use the memory of this list, whose frames are dropped, too.
+    ///
+    /// Rule: docs/PROTOCOL.md, "Steps of a node".
+    #[inline(always)]
+    pub fn reuse(&mut self, alloc: Global, mut frames: Vec<Bytes>)
+        ensures { self.new ≡ record self.old { sent = [] } }
+    {
+        frames.clear();
+        self.sent = FrameList::from_frames(alloc, frames);
     }
 }

@@ -38,6 +38,13 @@ impl FrameList {
         }
     }
 
+    /// The frames with these bytes, in order. This takes no memory; later calls take it of `alloc`.
+    pub fn from_frames(alloc: Global, frames: Vec<Bytes>) -> FrameList
+        ensures { result ≡ frames.items }
+    {
+        FrameList { alloc, frames }
+    }
+
     /// The number of frames.
     pub fn len(&self) -> usize
         ensures { result ≡ length self.now }
