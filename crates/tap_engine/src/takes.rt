@@ -97,7 +97,8 @@ impl Engine {
         }
         self.ledger.reserve(sent.len() + ROOM_BESIDE_FRAMES)?;
         self.ledger.push_reserved(Record::Taken { number });
-        push_turn(&mut self.ledger, name, sent, news);
+        self.overlay
+            .give_back(push_turn(&mut self.ledger, name, sent, news));
         Ok(())
     }
 }

@@ -1,10 +1,9 @@
 -- A frame that is delivered: what its receiver is, and what is told of it.
-use Rattle.std.proofs.Common.{◌≡◌, ◌≢◌, ℕ, List, None, Some, Result, Ok, Err, refl, sym, subst, ◌∙◌}
-use Rattle.std.specs.Prelude.{IsOkAnd, IsSomeAnd}
+use Rattle.std.proofs.Common.{◌≡◌, ℕ, List, None, Some, Result, Ok, Err, refl, sym, subst}
+use Rattle.std.specs.Prelude.{IsOk, IsOkAnd, IsSomeAnd}
 use Rattle.std.proofs.lemmas.Slice.Eq.{bytes_eq-Decides}
 use Rattle.tap_name.specs.Settings.{SettingsValue}
 use Rattle.tap_wire.specs.declared.fault.WireFault.{WireFault}
-use Rattle.tap_wire.specs.declared.fault.WireFault.TheVariants as wire
 use Rattle.tap_wire.specs.declared.frame.Frame.{Frame}
 use Rattle.tap_wire.specs.Spelling.{IsFrame}
 use Rattle.tap_rule.specs.Node.{name_of}
@@ -39,19 +38,7 @@ may_heed p nodes frame own is_frame may =
 pub of_read : (P : Frame → Type 0) (read : Result Frame WireFault) (frame : Frame) → IsOkAnd read P → read ≡ Ok frame → P frame
 of_read P read frame all is = subst (λ r. IsOkAnd r P) is all
 
--- no other fault than want of memory comes of bytes that are a frame
-module _ (P : Frame → Type 0) (read : Result Frame WireFault) (all : IsOkAnd read P) where
-  other : (fault : WireFault) → Err fault ≡ read → ⊥
-  other fault is = subst (λ r. IsOkAnd r P) (sym is) all
-
-  pub only_memory : (given : Result Frame WireFault) (fault : WireFault) → given ≡ Err fault → (given ≢ Err wire.NoMemory → given ≡ read)
-      → fault ≡ wire.NoMemory
-  only_memory given wire.NoMemory is exact = refl
-  only_memory given (wire.Short n) is exact = absurd (other (wire.Short n) (sym is ∙ exact (λ e. cc)))
-  only_memory given (wire.BadVersion n) is exact = absurd (other (wire.BadVersion n) (sym is ∙ exact (λ e. cc)))
-  only_memory given (wire.BadKind n) is exact = absurd (other (wire.BadKind n) (sym is ∙ exact (λ e. cc)))
-  only_memory given (wire.BadLength n) is exact = absurd (other (wire.BadLength n) (sym is ∙ exact (λ e. cc)))
-  only_memory given (wire.BadCount n) is exact = absurd (other (wire.BadCount n) (sym is ∙ exact (λ e. cc)))
-  only_memory given (wire.Trailing n) is exact = absurd (other (wire.Trailing n) (sym is ∙ exact (λ e. cc)))
-  only_memory given (wire.BadDigit n) is exact = absurd (other (wire.BadDigit n) (sym is ∙ exact (λ e. cc)))
-  only_memory given (wire.BadBody n) is exact = absurd (other (wire.BadBody n) (sym is ∙ exact (λ e. cc)))
+-- what each frame that is read keeps to is told of bytes that are a frame
+pub is_read : (P : Frame → Type 0) (read : Result Frame WireFault) → IsOkAnd read P → IsOk read
+is_read P (Ok frame) all = refl
+is_read P (Err fault) all = absurd all

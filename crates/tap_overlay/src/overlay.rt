@@ -10,17 +10,18 @@ ghost use Rattle.tap_overlay.specs.Overlay.{is_core_node_status, member_at, node
 ghost use Rattle.tap_node.specs.Outcome.{MayWant, empty_turn, start_outcome, take_outcome};
 
 use crate::fault::OverlayFault;
-use crate::memory::{only_memory, only_memory_read};
+use crate::memory::only_memory;
 use crate::start::Start;
 use crate::step::{deliver_at, start_at, take_at};
 use indexmap::IndexMap;
 use std::alloc::Global;
 use std::marker::Model;
+use std::mem;
 use tap_name::{List, Name, Settings};
 use tap_node::{NoMemory, Node, NodeFault, NodeStatus, Turn};
 use tap_surrogate::Tables;
 use tap_table::Table;
-use tap_wire::decode;
+use tap_wire::{Body, Bytes, Frame, decode_into};
 
 /// All nodes of a run, each under its name: the members with which it begins, at rest, and those that have joined since. A node
 /// that is gone, has ceased or has ended stays.
@@ -35,6 +36,10 @@ pub struct Overlay {
     alloc: Global,
     settings: Settings,
     nodes: IndexMap<Name, Node>,
+    // The list that was given back last: the frames of the next turn use its memory.
+    frames: Vec<Bytes>,
+    // The frame that was read last.
+    read: Frame,
 }
 
 impl Model for Overlay {
@@ -72,6 +77,12 @@ impl Overlay {
             alloc,
             settings: *settings,
             nodes,
+            frames: Vec::new(alloc),
+            read: Frame {
+                from: Name::of(&[]),
+                to: Name::of(&[]),
+                body: Body::Done,
+            },
         })
     }
 
@@ -134,6 +145,16 @@ impl Overlay {
         take_at(&mut self.nodes, name, bytes)
     }
 
+    /// Gives back the list of a turn's frames: the next frame that is delivered uses its memory.
+    ///
+    /// Rule: docs/DECISIONS.md, "The logs of a run".
+    #[inline(always)]
+    pub fn give_back(&mut self, frames: Vec<Bytes>)
+        ensures { self.new ≡ self.old }
+    {
+        self.frames = frames;
+    }
+
     /// A frame is taken by the node to which it goes (`Node::take_read`), whose name is the answer: an empty turn is lent, which then
     /// has the frames that are sent, and the news.
     ///
@@ -150,12 +171,13 @@ impl Overlay {
         ensures failed { OnErr result (HasFailed self.old.nodes self.new.nodes (frame_of self.old.settings bytes.now)) }
         ensures settings { self.new.settings ≡ self.old.settings }
     {
-        let frame = match decode(self.alloc, &self.settings, bytes) {
-            Ok(frame) => frame,
-            Err(fault) => return Err(only_memory_read(fault)),
-        };
-        deliver_at(&mut self.nodes, turn, &frame)?;
-        Ok(frame.to)
+        decode_into(self.alloc, &self.settings, bytes, &mut self.read)?;
+        turn.reuse(
+            self.alloc,
+            mem::replace(&mut self.frames, Vec::new(self.alloc)),
+        );
+        deliver_at(&mut self.nodes, turn, &self.read)?;
+        Ok(self.read.to)
     }
 
     /// The node of a name starts something, and gives the frames that it sends, and the news.

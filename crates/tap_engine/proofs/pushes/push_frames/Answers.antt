@@ -1,5 +1,5 @@
 use Rattle.std.proofs.Common.{◌≡◌, ℕ, ◌+◌, [], ◌∷◌, ◌++◌, List, length, ap, sym, subst, ◌∙◌, arith, append_assoc}
-use Rattle.std.specs.Vec.Iter.{into_iter_items}
+use Rattle.std.specs.Option.{option_to_list}
 use Rattle.tap_log.specs.declared.record.Record.TheVariants.{Sent}
 use Rattle.tap_log.specs.Counts.{sent_count}
 use Rattle.tap_ledger.specs.Added.{CanAdd}
@@ -11,19 +11,22 @@ use Rattle.tap_engine.proofs.pushes.push_frames.Goals as goal
 pub push_sent-requires-clause-can_add : goal.push_sent-requires-clause-can_add
 push_sent-requires-clause-can_add c =
     let log = c.loop-bytes.ledger.records in
-    let rest = into_iter_items c.next.new.self in
+    let rest = c.pop_front.new.self.items in
     let Can : List (List ℕ) → Type 0 = λ l. CanAdd log (bytes_records (sent_count log) l) in
-    let can = subst Can c.in-Some.ensures.steps.0 c.loop-bytes.invariant.can_add in
+    let step : c.loop-bytes.frames.items ≡ c.in-Some.bytes ∷ rest =
+    c.pop_front.ensures.items ∙ ap (λ o. option_to_list o ++ rest) c.in-Some.is in
+    let can = subst Can step c.loop-bytes.invariant.can_add in
     can_first log (Sent (sent_count log) c.in-Some.bytes ∷ []) (bytes_records (sent_count log + 1) rest) can
 
 pub loop-bytes-preserved : goal.loop-bytes-preserved
 loop-bytes-preserved c =
     let log = c.loop-bytes.ledger.records in
     let bytes = c.in-Some.bytes in
-    let rest = into_iter_items c.next.new.self in
+    let rest = c.pop_front.new.self.items in
     let number = sent_count log in
     let was = c.loop-bytes.invariant in
-    let step = c.in-Some.ensures.steps.0 in
+    let step : c.loop-bytes.frames.items ≡ bytes ∷ rest =
+    c.pop_front.ensures.items ∙ ap (λ o. option_to_list o ++ rest) c.in-Some.is in
     let more : c.push_sent.new.self.records ≡ log ++ Sent number bytes ∷ [] =
     c.push_sent.ensures.records in
     let on : sent_count c.push_sent.new.self.records ≡ number + 1 = ap sent_count more ∙ sent_on log number bytes in

@@ -24,8 +24,8 @@ push_some-requires-clause-can_add c =
     subst (CanAdd log) (sym c.record_before.ensures)
     (can_first log (seen_before c.args.name.now c.args.news.now) (bytes_records (sent_count log) c.args.frames.items ++ seen_after c.args.news.now) c.requires.can_add)
 
-pub push_frames-requires-clause-can_add : goal.push_frames-requires-clause-can_add
-push_frames-requires-clause-can_add c =
+pub push_frames-frames-requires-clause-can_add : goal.push_frames-frames-requires-clause-can_add
+push_frames-frames-requires-clause-can_add c =
     let log = c.args.ledger.now.records in
     let before = seen_before c.args.name.now c.args.news.now in
     let bytes = bytes_records (sent_count log) c.args.frames.items in
@@ -45,8 +45,8 @@ push_some-requires-2-clause-can_add c =
     let can = can_rest (log ++ before) bytes (seen_after c.args.news.now)
     (can_rest log before (bytes ++ seen_after c.args.news.now) c.requires.can_add) in
     let first : c.push_some.new.ledger.records ≡ log ++ before = c.push_some.ensures.records ∙ ap (λ l. log ++ l) c.record_before.ensures in
-    let now = bytes_added log c.push_some.new.ledger.records c.push_frames.new.ledger.records c.args.name.now c.args.news.now
-    c.args.frames.items first c.push_frames.ensures.records in
+    let now = bytes_added log c.push_some.new.ledger.records c.push_frames-frames.new.ledger.records c.args.name.now c.args.news.now
+    c.args.frames.items first c.push_frames-frames.ensures.records in
     subst (λ l. CanAdd l (at_most_one c.record_after.result)) (sym now) (subst (CanAdd ((log ++ before) ++ bytes)) (sym c.record_after.ensures) can)
 
 pub returns-clause-records : goal.returns-clause-records
@@ -56,8 +56,8 @@ returns-clause-records c =
     let bytes = bytes_records (sent_count log) c.args.frames.items in
     let after = seen_after c.args.news.now in
     let first : c.push_some.new.ledger.records ≡ log ++ before = c.push_some.ensures.records ∙ ap (λ l. log ++ l) c.record_before.ensures in
-    let now = bytes_added log c.push_some.new.ledger.records c.push_frames.new.ledger.records c.args.name.now c.args.news.now
-    c.args.frames.items first c.push_frames.ensures.records in
+    let now = bytes_added log c.push_some.new.ledger.records c.push_frames-frames.new.ledger.records c.args.name.now c.args.news.now
+    c.args.frames.items first c.push_frames-frames.ensures.records in
     c.push_some-2.ensures.records ∙ ap (λ l. l ++ at_most_one c.record_after.result) now
     ∙ ap (λ l. ((log ++ before) ++ bytes) ++ l) c.record_after.ensures
     ∙ append_assoc (log ++ before) bytes after ∙ append_assoc log before (bytes ++ after)

@@ -44,7 +44,7 @@ returns-clause-logs c =
     let m = c.args.self.now in
     let acted : Acted = record { name = c.args.name.now; turn = record { sent = c.args.sent; news = c.args.news.now } } in
     let taken : List Record = Taken c.args.number ∷ [] in
-    let after : Engine = record m { ledger = c.push_turn.new.ledger } in
+    let after : Engine = record m { ledger = c.push_turn.new.ledger; overlay = c.give_back.new.self } in
     let now : c.push_reserved.new.self.records ≡ m.ledger.records ++ taken =
     c.push_reserved.ensures.records ∙ ap (λ l. l ++ taken) c.reserve.ensures.records in
     let room = c.in_ok-reserve.ensures.ok in
@@ -55,4 +55,4 @@ returns-clause-logs c =
     logs_added m after [] (taken ++ turn_records (sent_count m.ledger.records) acted.name acted.turn) (length acted.turn.sent)
     c.requires.can_add.counts c.requires.sent (sym c.is_too_many.ensures ∙ c.if-is_too_many.false)
     (turn_added m taken acted c.requires.can_add c.push_reserved.new.self.records c.push_turn.new.ledger.records now c.push_turn.ensures.records)
-    (omega (arith, room, most, one, rest, size)) refl
+    (omega (arith, room, most, one, rest, size)) (ap (λ o. record m { ledger = c.push_turn.new.ledger; overlay = o }) c.give_back.ensures)
